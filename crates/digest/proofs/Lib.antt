@@ -1,0 +1,5 @@
+pub mod Blocks
+pub mod KeyBlocks
+pub mod Padding
+pub mod Seals
+pub mod Steps
