@@ -1,0 +1,4 @@
+pub mod Hexadecimal
+pub mod Decimal
+pub mod Splitting
+pub mod Messages
