@@ -1,0 +1,5 @@
+pub mod Bounds
+pub mod Seen
+pub mod Tally
+pub mod TruckLaws
+pub mod Trucks

@@ -1,0 +1,3 @@
+pub mod Feeding
+pub mod Imaging
+pub mod Sealing

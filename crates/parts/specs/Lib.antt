@@ -1,0 +1,5 @@
+pub mod Fed
+pub mod Image
+pub mod Keyed
+pub mod Meaning
+pub mod Stamp
