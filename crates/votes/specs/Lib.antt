@@ -1,0 +1,3 @@
+pub mod Quorum
+pub mod Votes
+pub mod Small
