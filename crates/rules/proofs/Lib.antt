@@ -1,0 +1,4 @@
+pub mod Laws
+pub mod Options
+pub mod Shelves
+pub mod Ways

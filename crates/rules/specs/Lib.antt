@@ -1,0 +1,11 @@
+pub mod Blocks
+pub mod Call
+pub mod Hear
+pub mod Laws
+pub mod Pit
+pub mod Propose
+pub mod Refusals
+pub mod Settle
+pub mod State
+pub mod Step
+pub mod Tick
