@@ -1,0 +1,4 @@
+pub mod Promise
+pub mod Sheet
+pub mod Sound
+pub mod Timely
