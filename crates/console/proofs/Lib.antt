@@ -1,0 +1,5 @@
+pub mod Certificates
+pub mod Doing
+pub mod Heard
+pub mod Silent
+pub mod Steps

@@ -1,0 +1,7 @@
+pub mod Answered
+pub mod Does
+pub mod Lines
+pub mod Permits
+pub mod Requested
+pub mod Seen
+pub mod Stands
