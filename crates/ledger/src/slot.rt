@@ -8,6 +8,7 @@ ghost use Rattle.wire.specs.Format.{same-key};
 use rules::block::Block;
 use rules::block::BlockKeyed;
 use shelf::record::OptionRecord;
+use shelf::shelf::Shelf;
 use shelf::slots;
 use wire::body::Body;
 use wire::certificate::Signers;
@@ -74,12 +75,15 @@ fn fresh_block(body: &Body, name: &[u8; 32]) -> Block
 pub fn place(shelf: &mut [Option<Block>], body: &Body, name: &[u8; 32])
     ensures { λ _. ⌜ now (shelf .exit) ≡ put-block (fresh (now (body .entry)) (now (name .entry))) (now (shelf .entry)) ⌝ }
 {
-    let _ = slots::put(shelf, Some(fresh_block(body, name)));
+    let block = fresh_block(body, name);
+    let mut table = Shelf::over(shelf);
+    let _ = table.put(Some(block));
 }
 
 // Empties every slot.
 pub fn clear_all(shelf: &mut [Option<Block>])
     ensures { λ _. ⌜ now (shelf .exit) ≡ replicate (length (now (shelf .entry))) None ⌝ }
 {
-    slots::clear_all(shelf);
+    let mut table = Shelf::over(shelf);
+    table.clear_all();
 }
