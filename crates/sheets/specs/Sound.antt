@@ -18,12 +18,15 @@ use Rattle.rules.specs.Call.{Call, opening, ticking, proposing, passing, hearin
 use Rattle.rules.specs.Step.{turn, Owed, Vouched}
 use Rattle.sheets.specs.Sheet.{Pit, Sound, Line, Sheet, Spot, did, answer-in, shown-in, sealed-in, relied-in}
 
--- A pit has 4 to 16 consoles, and at most (n − 1) ÷ 3 of them are not sound.
+-- A pit has 4 to 16 consoles, and at most (n − 1) ÷ 3 of them are not sound. With more, two quorums need not share a
+-- sound console, and no method could keep chains together.
 pub record Sound-pit (pit : Pit) : Type 0 where
   pub four : 4 ≤ pit .n
   pub sixteen : pit .n ≤ 16
   pub few-faulty : Few (pit .n) (pit .sound)
 
+-- What a call's arguments can be. A list stands for bytes here, and a number for one of so many bits; the types of the
+-- running calls give these bounds, so every run meets them.
 abbrev pub Typed-call : Call → Type 0
 Typed-call (opening slots) = Unit {0}
 Typed-call (ticking t) = t < 2 ^ 32
@@ -41,7 +44,7 @@ pub record Typed (l : Line) : Type 0 where
 abbrev pub Typed-lines : Sheet → Type 0
 Typed-lines sheet = (p : Spot sheet) → Typed (p .line)
 
--- Only sound consoles have lines.
+-- Only sound consoles have lines: a sheet lists what the product did, and says nothing of what faulty consoles do.
 abbrev pub Sound-lines : Pit → Sheet → Type 0
 Sound-lines pit sheet = (p : Spot sheet) → Sound pit (p .line .console)
 
@@ -49,14 +52,14 @@ Sound-lines pit sheet = (p : Spot sheet) → Sound pit (p .line .console)
 abbrev pub Sealed : Pit → Sheet → ℕ → Statement → Type 0
 Sealed pit lines j st = (q : Spot lines) × (q .line .console ≡ j) × (sealed-in (did pit q) ≡ Some st)
 
--- A seal cannot be forged: when a call relied on a seal under a sound number, that number's console had sealed
+-- A seal cannot be forged, which is what keys are for: when a call relied on a seal under a sound number, that number's console had sealed
 -- the statement on an earlier line.
 abbrev pub No-forgery : Pit → Sheet → Type 0
 No-forgery pit sheet =
     (p : Spot sheet) (v : Vouched) → List·Memᴰ v (relied-in (did pit p)) → Sound pit (v .signer)
     → Sealed pit (p .earlier) (v .signer) (v .statement)
 
--- Sealing gives a seal that the console's own seals accept under its number.
+-- Sealing gives a seal that the console's own seals accept under its number: what every kind of seals has to show.
 abbrev pub Good-seals : Pit → Sheet → Type 0
 Good-seals pit sheet =
     (p : Spot sheet) (st : Statement) → sealed-in (did pit p) ≡ Some st
@@ -82,7 +85,7 @@ pub record Turns-once (pit : Pit) (sheet : Sheet) : Type 0 where
 abbrev pub On-sheet : Pit → Sheet → Body → Type 0
 On-sheet pit sheet b = (p : Spot sheet) × (shown-in (did pit p) ≡ Some b)
 
--- No two bodies on the sheet share a digest.
+-- No two bodies on the sheet share a digest: nobody has found two messages of one SHA-256 digest.
 abbrev pub No-collision : Pit → Sheet → Type 0
 No-collision pit sheet =
     (b c : Body) → On-sheet pit sheet b → On-sheet pit sheet c → body-name b ≡ body-name c → b ≡ c
