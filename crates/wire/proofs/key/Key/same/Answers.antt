@@ -1,10 +1,9 @@
 use Rattle.std.proofs.Common.{arith}
-use Rattle.std.proofs.lemmas.Slice.Eq.{slice_eq-Decides, bytes_eq-Decides}
+use Rattle.std.proofs.lemmas.Slice.Eq.{bytes_eq-Decides}
 use Rattle.std.proofs.lemmas.Bool.Decides.{nat_tests, Decides-eqb}
 use Rattle.wire.proofs.key.Key.same.Goals as goal
 
 pub returns-then-self-other : goal.returns-then-self-other
 returns-then-self-other c =
-    let d = slice_eq-Decides Decides-eqb _ _ _ c.eq.ensures in
     let s = bytes_eq-Decides c.args.self.now.name c.args.other.now.name in
-    record { decides = grind arith; value = grind (arith, nat_tests) }
+    record { decides = grind (arith, c.eq.ensures); value = grind (arith, nat_tests, c.eq.ensures) }
