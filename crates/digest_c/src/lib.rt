@@ -1,4 +1,6 @@
 // The digest for callers in C, as the measurements use it.
+#![tactic(auto)]
+
 ghost use Rattle.digest.specs.Sha256.{digest};
 ghost use Rattle.std.specs.Prelude.{◌≡◌};
 

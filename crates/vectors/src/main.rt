@@ -1,14 +1,13 @@
-// Runs the published examples of SHA-256 and HMAC-SHA-256, with a line for each: its name, what came, and whether that is the
-// published value; and the examples of handing over, through a running console.
+// Runs the published examples of SHA-256 and HMAC-SHA-256, with a line for each: its name, what came, and whether that is the published value.
+#![tactic(auto)]
+
 mod cases;
-mod handing;
 mod hex;
 mod keys;
 mod report;
 
 use cases::{DIGESTS, DigestCase, TAGS, TagCase};
 use digest::sha256;
-use handing::handed_over;
 use report::Tally;
 use std::io;
 
@@ -27,13 +26,6 @@ fn run_tag(rt: &HostRuntime, tally: &mut Tally, case: &TagCase) -> io::Result<()
     }
 }
 
-// One example of handing over: so many blocks are handed over.
-fn run_handing(rt: &HostRuntime, name: &str, child_view: u32, expected: usize) -> io::Result<()> {
-    let came = handed_over(child_view).unwrap_or(0);
-    let verdict = if came == expected { "ok" } else { "WRONG" };
-    println!(rt; "{name}: {came} handed over {verdict}")
-}
-
 fn main(rt: HostRuntime) -> io::Result<()> {
     let mut tally = Tally::new();
     for case in &DIGESTS {
@@ -42,17 +34,5 @@ fn main(rt: HostRuntime) -> io::Result<()> {
     for case in &TAGS {
         run_tag(&rt, &mut tally, case)?;
     }
-    run_handing(
-        &rt,
-        "Handing over, views 3 and 4, the child certified",
-        4,
-        1,
-    )?;
-    run_handing(
-        &rt,
-        "Handing over, views 3 and 5, the child certified",
-        5,
-        0,
-    )?;
     tally.total(&rt)
 }

@@ -12,4 +12,4 @@ pub loop-turn-preserved : goal.loop-turn-preserved
 loop-turn-preserved c =
     let part = c.args.self.now.part.now in
     pushed part c.loop-turn.invariant c.in_ok-extend_from_slice.was c.extend_from_slice.ensures.items
-    ∙ sym (repeated_more c.loop-turn.-turn part)
+    ∙ sym (repeated_more c.loop-turn._turn part)
