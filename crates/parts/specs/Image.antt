@@ -1,5 +1,5 @@
 -- The store as an image of 14 bytes: ST, lock, voted, proposed.
-use Rattle.std.specs.Prelude.{◌≡◌, ℕ, cond, ◌&&◌, List, [], ◌∷◌, ◌++◌, take, codes}
+use Rattle.std.specs.Prelude.{◌≡◌, ℕ, cond, List, [], ◌∷◌, ◌++◌, take, codes}
 use Rattle.std.specs.Str.{bytes_eq}
 use Rattle.wire.specs.Bytes.{be, number}
 use Rattle.parts.specs.declared.store.Marks.{Marks}

@@ -1,4 +1,4 @@
-use Rattle.std.proofs.Common.{◌≡◌, ℕ, Bool, List, length, Decides, sym, ◌∙◌, subst, arith}
+use Rattle.std.proofs.Common.{◌≡◌, ℕ, List, ◌∙◌, subst}
 use Rattle.std.specs.Str.{bytes_eq}
 use Rattle.parts.proofs.Sealing.{same_by, same_short}
 use Rattle.parts.proofs.seals.is_seal.Goals as goal
