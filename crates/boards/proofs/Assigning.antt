@@ -1,9 +1,9 @@
 -- The laws of the assignment board.
-use Rattle.std.proofs.Common.{◌≡◌, ℕ, ◌+◌, ◌<◌, ◌≤◌, Bool, true, false, cond, not, ◌&&◌, eqb, ◌⊎◌, List, length, get_or, set, is_some, Some, None, Option, sym, refl, ap, ◌∙◌, subst, inl, inr, ⊎_elim, arith}
+use Rattle.std.proofs.Common.{◌≡◌, ℕ, ◌<◌, ◌≤◌, Bool, true, false, cond, eqb, ◌⊎◌, List, length, get_or, set, is_some, Some, None, Option, sym, refl, ap, ◌∙◌, subst, inl, inr, ⊎_elim, arith}
 use Rattle.std.proofs.lemmas.List.{length-set, get_or-set_same, get_or-set_other, get_or_past}
 use Rattle.std.proofs.lemmas.Bool.{and_parts, not-true, cases_eq, cases_lt, both_ways, eqb-true, eqb-false, eq-eqb, ltb-true}
 use Rattle.std.proofs.lemmas.Bool.Decides.{nat_tests}
-use Rattle.shelf.specs.Laws.{First, Nowhere, Finds, FindsVacant}
+use Rattle.shelf.specs.Laws.{First, Nowhere}
 use Rattle.shelf.specs.Slots.{shown}
 use Rattle.shelf.proofs.Meaning.{finds, finds_vacant}
 use Rattle.wire.specs.declared.order.Order.{Order}
@@ -11,7 +11,7 @@ use Rattle.wire.specs.declared.order.Order.TheVariants.{Send, Release, Load}
 use Rattle.wire.specs.Format.{well_formed}
 use Rattle.boards.specs.declared.assignment.line.Line.{Line}
 use Rattle.boards.specs.declared.assignment.line.Change.{Change}
-use Rattle.boards.specs.Trucks.{Roster, assigned, called, change, effective, free_line, line_of, one_at, or_else, place_by, place_on, released, seat, sent, takes_more, truck_of, trucks_at, whereabouts, writing, written}
+use Rattle.boards.specs.Trucks.{Roster, assigned, change, effective, free_line, line_of, one_at, or_else, place_by, place_on, released, sent, truck_of, trucks_at, whereabouts, writing, written}
 use Rattle.boards.specs.TruckLaws.{AssignmentTells, OneLineAtMost, LimitHolds, SentWithin, OneEach, OneEachStays, Arrives, Leaves}
 use Rattle.boards.proofs.Counting.{one_at_most, trucks_set_most}
 

@@ -1,5 +1,5 @@
 -- The assignment board: where each truck is sent.
-use Rattle.std.specs.Prelude.{ℕ, ◌+◌, Bool, true, false, cond, not, ◌&&◌, List, [], ◌∷◌, is_some, Some, None, Option, ◌==◌, nat_eq, nat_lt, slice_index_or, slice_set}
+use Rattle.std.specs.Prelude.{ℕ, ◌+◌, Bool, cond, not, ◌&&◌, List, [], ◌∷◌, is_some, Some, None, Option, ◌==◌, nat_eq, nat_lt, slice_index_or, slice_set}
 use Rattle.shelf.specs.Slots.{find, shown, vacant}
 use Rattle.wire.specs.Format.{well_formed}
 use Rattle.wire.specs.declared.order.Order.{Order}
