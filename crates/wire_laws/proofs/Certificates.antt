@@ -1,19 +1,17 @@
 -- A certificate and its bytes determine one another.
-use Rattle.std.proofs.Common.{◌≡◌, ℕ, zero, suc, ◌+◌, ◌-◌, ◌*◌, ◌/◌, ◌%◌, ◌^◌, ◌<◌, ◌≤◌, Bool, true, false, cond, List, [], ◌∷◌, ◌++◌, map, length, get_or, take, drop, codes, sym, refl, ap, ◌∙◌, subst, add-zero, add-suc, add-sub_of_le, add-one, arith, take-add}
-use lib.Count.{ones}
+use Rattle.std.proofs.Common.{◌≡◌, ℕ, zero, suc, ◌+◌, ◌-◌, ◌*◌, ◌^◌, ◌<◌, ◌≤◌, true, cond, List, [], ◌++◌, length, get_or, take, drop, codes, sym, ap, ◌∙◌, subst, add-zero, add-suc, add-sub_of_le, add-one, arith, take-add}
 use Rattle.std.proofs.lemmas.List.FromFn.{fill_by_all, get_or-map-range_with_len}
 use Rattle.std.proofs.ByRecursion.{All-take, All-drop}
-use Rattle.std.proofs.lemmas.List.{append-nil, append_assoc, take-append-drop, take_all, take_at, drop_at, drop-drop, length-take, length-drop}
+use Rattle.std.proofs.lemmas.List.{append-nil, append_assoc, take_all, take_at, drop_at, drop-drop, length-take, length-drop}
 use Rattle.std.proofs.lemmas.Bool.{cond_both}
-use Rattle.std.specs.List.{range_with_len}
 use Rattle.wire.specs.Bytes.{be, num, field, number, Octets}
-use Rattle.wire.specs.Canon.{KeyFits, CertificateFits}
+use Rattle.wire.specs.Canon.{CertificateFits}
 use Rattle.wire.specs.Format.{key_bytes, certificate_bytes, packed_below, packed, signed, no_seal}
 use Rattle.wire.specs.Read.{marked, key_at, seal_in, seals_in, certificate_in, certificate_length}
 use Rattle.wire.specs.declared.certificate.Certificate.{Certificate}
 use Rattle.wire.proofs.Bodies.{cut, key_back, be_field, mark_is}
 use Rattle.wire.proofs.Numbers.{num_be, num_below}
-use Rattle.wire.proofs.Signing.{before, before_none, before-all, before_in, before_out, packed_in, packed_out, packed_size}
+use Rattle.wire.proofs.Signing.{before, before_none, before-all, before_in, before_out, packed_in, packed_size}
 
 -- Bytes first: the seals spread out and packed again.
 module _ (set : ℕ) (ps : List ℕ) where

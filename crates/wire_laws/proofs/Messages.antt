@@ -1,15 +1,15 @@
 -- Messages and their bytes determine one another.
-use Rattle.std.proofs.Common.{◌≡◌, ℕ, zero, suc, ◌+◌, ◌-◌, ◌*◌, ◌^◌, ◌<◌, ◌≤◌, Bool, true, false, cond, ◌&&◌, eqb, ltb, leb, List, [], ◌∷◌, ◌++◌, length, get_or, take, drop, Some, Ok, Err, codes, Result, sym, refl, ap, ◌∙◌, subst, arith, eqb-true}
+use Rattle.std.proofs.Common.{◌≡◌, ℕ, ◌+◌, ◌-◌, ◌*◌, ◌<◌, ◌≤◌, Bool, true, false, ◌&&◌, eqb, List, ◌++◌, length, get_or, take, drop, Some, Ok, codes, Result, sym, refl, ap, ◌∙◌, arith, eqb-true}
 use lib.Count.{ones, ones-le}
 use Rattle.std.proofs.ByRecursion.{All-take, All-drop}
-use Rattle.std.proofs.lemmas.List.{append_assoc, take-append-drop, take-append-le, drop-append-le, take_all, take_at, drop_at, drop-drop, length-append, length-take, length-drop}
+use Rattle.std.proofs.lemmas.List.{take-append-drop, take-append-le, drop-append-le, take_all, take_at, drop_at, drop-drop, length-append, length-drop}
 use Rattle.std.proofs.lemmas.Bool.{cond_both, and_parts}
 use Rattle.std.proofs.lemmas.Bool.Decides.{nat_tests}
 use Rattle.wire.specs.Bytes.{be, num, field, number, Octets}
 use Rattle.wire.specs.Canon.{BodyFits, CertificateFits, ProposalFits, VoteFits, WellFormed, KeyFits}
-use Rattle.wire.specs.Format.{key_bytes, body_bytes, certificate_bytes, proposal_bytes, vote_bytes, message_bytes, purpose_mark, statement_bytes, orders_of, same_key, packed}
+use Rattle.wire.specs.Format.{key_bytes, body_bytes, certificate_bytes, proposal_bytes, vote_bytes, message_bytes, purpose_mark, statement_bytes, orders_of}
 use Rattle.wire.specs.Parts.{Lengths}
-use Rattle.wire.specs.Read.{marked, key_at, body_in, certificate_in, proposal_in, vote_in, orders_in, body_length, certificate_length, body_part, past_body, certificate_part, seal_part, proposal_fits, all_well_formed, body_stands, certificate_stands, proposal_stands, vote_stands, inner_marks, judged, read_proposal, read_vote, read}
+use Rattle.wire.specs.Read.{marked, key_at, body_in, certificate_in, proposal_in, vote_in, body_length, certificate_length, body_part, past_body, certificate_part, seal_part, proposal_fits, all_well_formed, body_stands, proposal_stands, vote_stands, inner_marks, judged, read_proposal, read_vote, read}
 use Rattle.wire.specs.declared.body.Body.{Body}
 use Rattle.wire.specs.declared.certificate.Certificate.{Certificate}
 use Rattle.wire.specs.declared.key.Key.{Key}
@@ -21,10 +21,9 @@ use Rattle.wire.specs.declared.statement.Purpose.{Purpose}
 use Rattle.wire.specs.declared.statement.Purpose.TheVariants.{Propose, Vote as Vote-for}
 use Rattle.wire.specs.declared.statement.Statement.{Statement}
 use Rattle.wire.specs.declared.unreadable.Unreadable.{Unreadable}
-use Rattle.wire.specs.declared.unreadable.Unreadable.TheVariants.{Mark, Length, Form}
 use Rattle.wire.proofs.Bodies.{body_forth, body_back, cut, be_field, key_back, mark_is}
 use Rattle.wire.proofs.Numbers.{num_be}
-use Rattle.wire.proofs.Proposals.{fit, read-stands, vote-read, body-whole, certificate-whole, few-orders}
+use Rattle.wire.proofs.Proposals.{fit, read-stands, vote-read, body-whole, certificate-whole}
 use Rattle.wire.proofs.Sequences.{length-orders_in}
 use Rattle.wire.proofs.Signing.{before-all, packed_size}
 use Rattle.wire.proofs.Sizes.{length-proposal, length_body, length-certificate, length-key}

@@ -1,5 +1,5 @@
 -- Worked examples.
-use Rattle.std.specs.Prelude.{◌≡◌, ℕ, ◌<◌, true, false, [], ◌∷◌, length, filter, count_ones}
+use Rattle.std.specs.Prelude.{◌≡◌, [], ◌∷◌, length, filter, count_ones}
 use Rattle.wire.specs.Canon.{ProposalFits}
 use Rattle.wire.specs.Format.{orders_of, proposal_bytes, signed}
 use Rattle.wire.specs.declared.message.Proposal.{Proposal}

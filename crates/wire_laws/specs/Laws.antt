@@ -1,5 +1,5 @@
 -- What holds of the format and the reading together.
-use Rattle.std.specs.Prelude.{◌≡◌, ℕ, ◌<◌, List, length, Ok}
+use Rattle.std.specs.Prelude.{◌≡◌, ℕ, List, Ok}
 use Rattle.wire.specs.Bytes.{Octets}
 use Rattle.wire.specs.Canon.{BodyFits, KeyFits, WellFormed}
 use Rattle.wire.specs.Format.{body_bytes, message_bytes, statement_bytes}

@@ -1,4 +1,6 @@
 // The laws of the format and its reading, each proved as what a function promises.
+#![tactic(auto)]
+
 ghost use Rattle.wire_laws.specs.Examples.{Proposal165, Signers000B};
 ghost use Rattle.wire_laws.specs.Laws.{BodyByBytes, ReadIsWritten, StatementByBytes, WrittenReads};
 
