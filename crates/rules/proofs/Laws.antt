@@ -1,12 +1,10 @@
 -- Why the calls keep what Laws says.
-use Rattle.std.proofs.Common.{◌≡◌, ℕ, zero, suc, ◌+◌, ◌<◌, ◌≤◌, Bool, true, false, cond, ◌&&◌, ◌||◌, eqb, ltb, leb, ◌⊎◌, List, [], ◌∷◌, ◌++◌, get_or, Some, None, Option, sym, refl, ap, ◌∙◌, subst, inl, inr, ⊎_elim, arith}
+use Rattle.std.proofs.Common.{◌≡◌, ℕ, ◌+◌, ◌<◌, ◌≤◌, Bool, true, false, ◌||◌, eqb, ◌⊎◌, List, [], ◌∷◌, ◌++◌, Some, None, Option, sym, refl, ap, ◌∙◌, subst, inl, inr, arith}
 use Rattle.std.proofs.lemmas.Bool.{cond_both}
 use Rattle.std.proofs.lemmas.Bool.Decides.{nat_tests}
 use Rattle.votes.specs.Quorum.{is_quorum}
-use Rattle.wire.specs.Format.{signed}
 use Rattle.wire.specs.Format.{same_key}
 use Rattle.wire.specs.declared.body.Body.{Body}
-use Rattle.wire.specs.declared.certificate.Signers.{Signers}
 use Rattle.wire.specs.declared.key.Key.{Key}
 use Rattle.wire.specs.declared.message.Proposal.{Proposal}
 use Rattle.wire.specs.declared.message.Vote.{Vote}
@@ -19,10 +17,10 @@ use Rattle.rules.specs.Hear.{take_up, count_vote, hear}
 use Rattle.rules.specs.Laws.{VotesRightly, EveryVote, KeepsVotes, NoVoteLost, CountedOnce, Child, Certified, HandedRightly, EveryHandOver}
 use Rattle.rules.specs.Pit.{view_of}
 use Rattle.rules.specs.Propose.{propose, propose_body}
-use Rattle.rules.specs.Settle.{names_parent, certified, confirms, reaches, line_within, line, ready, best, Settled, settle_at, settle, joined}
+use Rattle.rules.specs.Settle.{names_parent, certified, confirms, line_within, line, ready, best, Settled, settle_at, settle}
 use Rattle.rules.specs.State.{State, Ledger, Table}
 use Rattle.rules.specs.Step.{Outcome, Owed}
-use Rattle.rules.specs.Tick.{clocked, candidate_block, may_vote, take_turn, vote_for, cast_vote, tick}
+use Rattle.rules.specs.Tick.{clocked, candidate_block, may_vote, vote_for, tick}
 use Rattle.rules.specs.Shelves.{key_same, held_on, best_on, some_slot_on}
 use Rattle.rules.proofs.Ways.{turn_ways, vote_ways, tick_ways, propose_ways, hear_ways, hear_proposal_ways, hear_vote_ways}
 

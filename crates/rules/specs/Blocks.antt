@@ -1,10 +1,8 @@
 -- The block shelf: slots that are empty or hold a block, and what is asked of them.
-use Rattle.std.specs.Prelude.{◌≡◌, ℕ, ◌+◌, ◌<◌, Bool, true, false, cond, ◌&&◌, ◌||◌, List, [], ◌∷◌, length, is_some, Some, None, Option, nat_lt, slice_index_or}
+use Rattle.std.specs.Prelude.{◌≡◌, ℕ, Bool, cond, List, [], ◌∷◌, is_some, Some, None, Option, nat_lt, slice_index_or}
 use Rattle.shelf.specs.Slots.{lowest, find, shown, vacant, placed}
 use Rattle.wire.specs.Format.{same_key}
 use Rattle.wire.specs.declared.key.Key.{Key}
-use Rattle.wire.specs.declared.body.Body.{Body}
-use Rattle.wire.specs.declared.certificate.Signers.{Signers}
 use Rattle.rules.specs.declared.block.Block.{Block}
 
 abbrev pub Slot : Type 0

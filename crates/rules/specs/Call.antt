@@ -4,7 +4,7 @@ use Rattle.wire.specs.declared.order.Order.{Order}
 use Rattle.rules.specs.Hear.{hear}
 use Rattle.rules.specs.Propose.{propose}
 use Rattle.rules.specs.State.{State, Seat, Table, opened}
-use Rattle.rules.specs.Step.{Answer, opens, passed, Owed, Outcome, only}
+use Rattle.rules.specs.Step.{opens, passed, Owed, Outcome, only}
 use Rattle.rules.specs.Tick.{tick}
 
 pub data Call : Type 0 where

@@ -1,5 +1,5 @@
 -- hear: one message of any bytes.
-use Rattle.std.specs.Prelude.{ℕ, zero, suc, ◌<◌, Bool, true, false, cond, not, ◌&&◌, ◌||◌, List, [], ◌∷◌, ◌++◌, length, Some, None, Ok, Err, Option, Result, ◌==◌, nat_le, nat_lt, slice_index_or}
+use Rattle.std.specs.Prelude.{ℕ, zero, suc, Bool, true, cond, not, ◌&&◌, ◌||◌, List, [], ◌∷◌, ◌++◌, Some, None, Ok, Err, Option, ◌==◌, nat_le, nat_lt, slice_index_or}
 use Rattle.votes.specs.Quorum.{is_quorum}
 use Rattle.wire.specs.Format.{body_key, body_name, signed}
 use Rattle.wire.specs.Read.{read}
@@ -15,15 +15,14 @@ use Rattle.wire.specs.declared.statement.Statement.{Statement}
 use Rattle.wire.specs.declared.statement.Purpose.TheVariants as purpose
 use Rattle.wire.specs.declared.unreadable.Unreadable.{Unreadable}
 use Rattle.wire.specs.declared.unreadable.Unreadable.TheVariants as unreadable
-use Rattle.rules.specs.declared.block.Block.{Block}
 use Rattle.rules.specs.declared.refusal.Refusal.{Refusal}
 use Rattle.rules.specs.declared.refusal.Refusal.TheVariants.{ShelfSize, Mark, Length, Form, ViewAhead, NotAboveHead, LeaderSeal, BadCertificate, ShelfFull, NotHeld, VoterSeal}
-use Rattle.rules.specs.Blocks.{Slot, is_held, has_room, held}
+use Rattle.rules.specs.Blocks.{is_held, held}
 use Rattle.rules.specs.Pit.{leader}
 use Rattle.rules.specs.Propose.{fits_shelf}
 use Rattle.rules.specs.Settle.{Settled, enter, fresh, placed, settle, with_top}
 use Rattle.rules.specs.State.{State, Ledger, Table, shelf_fits, with_ledger, with_candidate}
-use Rattle.rules.specs.Step.{Answer, refused, new, known, Outcome, only, Vouched}
+use Rattle.rules.specs.Step.{refused, new, known, Outcome, only, Vouched}
 
 -- What the leader's seal is over, and what a vote's seal is over.
 abbrev pub proposes : Key → Statement

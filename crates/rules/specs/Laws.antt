@@ -1,19 +1,15 @@
 -- What the calls keep, in words of the subject: above the definitions, which spell each call out.
-use Rattle.std.specs.Prelude.{◌≡◌, ℕ, suc, ◌+◌, ◌<◌, ◌≤◌, true, false, ◌⊎◌, List, [], ◌∷◌, ◌++◌, Some, None, Option}
-use Rattle.std.specs.Int.Count.{ones}
+use Rattle.std.specs.Prelude.{◌≡◌, ℕ, ◌+◌, ◌<◌, ◌≤◌, true, ◌⊎◌, List, [], ◌∷◌, ◌++◌, Some, None}
 use Rattle.votes.specs.Quorum.{is_quorum}
 use Rattle.wire.specs.Format.{signed}
 use Rattle.wire.specs.declared.body.Body.{Body}
 use Rattle.wire.specs.declared.certificate.Signers.{Signers}
-use Rattle.wire.specs.declared.key.Key.{Key}
-use Rattle.wire.specs.declared.order.Order.{Order}
 use Rattle.parts.specs.declared.store.Marks.{Marks}
 use Rattle.rules.specs.declared.block.Block.{Block}
 use Rattle.rules.specs.Blocks.{Slot, On, block_key}
-use Rattle.rules.specs.Call.{Call, opening, ticking, proposing, passing, hearing, step}
+use Rattle.rules.specs.Call.{Call, step}
 use Rattle.rules.specs.Settle.{joined, settle}
-use Rattle.rules.specs.State.{State, Seat, Ledger, Table, opened}
-use Rattle.rules.specs.Step.{Answer, vote, Outcome}
+use Rattle.rules.specs.State.{State, Ledger, Table}
 
 -- A vote of a console, from the state before it to the state after.
 pub record VotesRightly (before after : State) (b : Body) : Type 0 where

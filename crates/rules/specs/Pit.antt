@@ -1,5 +1,5 @@
 -- The numbers of a pit of n consoles. Each rule stands here once; everything else speaks through these names.
-use Rattle.std.specs.Prelude.{ℕ, ◌+◌, ◌*◌, ◌/◌, ◌%◌, ◌≤◌, Bool, ◌&&◌, ◌==◌, nat_le}
+use Rattle.std.specs.Prelude.{ℕ, ◌/◌, ◌%◌, Bool, ◌&&◌, ◌==◌, nat_le}
 
 -- A pit has four to sixteen consoles, numbered from 0.
 abbrev pub pit_size : ℕ → Bool

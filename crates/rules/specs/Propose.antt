@@ -1,12 +1,11 @@
 -- propose: the leader spends its turn on a block that builds on its top certificate.
-use Rattle.std.specs.Prelude.{ℕ, ◌*◌, ◌<◌, Bool, true, false, cond, not, ◌&&◌, ◌||◌, List, [], ◌∷◌, length, Some, None, Option, ◌==◌, nat_le, nat_lt}
+use Rattle.std.specs.Prelude.{ℕ, ◌*◌, Bool, cond, not, ◌&&◌, ◌||◌, List, [], length, Some, None, Option, ◌==◌, nat_le, nat_lt}
 use Rattle.wire.specs.Format.{body_key, body_name, pack, proposal_bytes}
 use Rattle.wire.specs.Read.{all_well_formed}
 use Rattle.wire.specs.declared.body.Body.{Body}
 use Rattle.wire.specs.declared.key.Key.{Key}
 use Rattle.wire.specs.declared.message.Proposal.{Proposal}
 use Rattle.wire.specs.declared.order.Order.{Order}
-use Rattle.wire.specs.declared.statement.Statement.{Statement}
 use Rattle.wire.specs.declared.statement.Purpose.TheVariants as purpose
 use Rattle.rules.specs.declared.refusal.Refusal.{Refusal}
 use Rattle.rules.specs.declared.refusal.Refusal.TheVariants.{ShelfSize, NotItsTurn, ShortOutput, BadOrders, ShelfFull}
@@ -14,7 +13,7 @@ use Rattle.rules.specs.Blocks.{is_held, has_room}
 use Rattle.rules.specs.Pit.{longest_proposal}
 use Rattle.rules.specs.Settle.{Settled, fresh, placed, settle}
 use Rattle.rules.specs.State.{State, Ledger, shelf_fits, with_ledger, with_candidate}
-use Rattle.rules.specs.Step.{Answer, refused, proposal, Owed, Outcome, only}
+use Rattle.rules.specs.Step.{refused, proposal, Owed, Outcome, only}
 
 -- The body that the turn's holder would propose.
 abbrev pub body_on_top : State → Owed → List Order → Body

@@ -1,5 +1,5 @@
 -- Votes, certificates and handing over, on the ledger alone.
-use Rattle.std.specs.Prelude.{ℕ, zero, suc, ◌+◌, ◌^◌, Bool, true, false, cond, not, ◌&&◌, ◌||◌, List, [], ◌∷◌, ◌++◌, length, set, replicate, Some, None, Option, ◌==◌, bit_or, nat_lt, slice_index_or, slice_set}
+use Rattle.std.specs.Prelude.{ℕ, zero, suc, ◌+◌, ◌^◌, Bool, false, cond, not, ◌&&◌, ◌||◌, List, [], ◌∷◌, ◌++◌, length, Some, None, Option, ◌==◌, bit_or, nat_lt, slice_index_or, slice_set}
 use Rattle.votes.specs.Quorum.{is_quorum}
 use Rattle.wire.specs.Format.{signed, no_signers}
 use Rattle.wire.specs.Format.{same_key}

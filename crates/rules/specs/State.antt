@@ -1,5 +1,5 @@
 -- What a console keeps, and what opening makes of it.
-use Rattle.std.specs.Prelude.{ℕ, Bool, ◌&&◌, List, [], ◌∷◌, length, replicate, Some, None, Option, ◌==◌}
+use Rattle.std.specs.Prelude.{ℕ, Bool, ◌&&◌, List, length, replicate, Some, None, Option, ◌==◌}
 use Rattle.wire.specs.declared.key.Key.{Key}
 use Rattle.wire.specs.declared.certificate.Certificate.{Certificate}
 use Rattle.wire.specs.declared.statement.Statement.{Statement}

@@ -1,8 +1,7 @@
 -- One call at an open console: what it answers, what it leaves, and what it did on the way.
-use Rattle.std.specs.Prelude.{ℕ, List, [], ◌∷◌, Some, None, Option}
+use Rattle.std.specs.Prelude.{ℕ, List, [], None, Option}
 use Rattle.wire.specs.declared.body.Body.{Body}
 use Rattle.wire.specs.declared.message.Vote.{Vote}
-use Rattle.wire.specs.declared.order.Order.{Order}
 use Rattle.wire.specs.declared.statement.Statement.{Statement}
 use Rattle.rules.specs.declared.refusal.Refusal.{Refusal}
 use Rattle.rules.specs.State.{State}

@@ -1,9 +1,7 @@
 -- tick: the clock moves on; an even tick may owe the console a turn, an odd one may make it vote.
-use Rattle.std.specs.Prelude.{ℕ, ◌/◌, ◌%◌, Bool, true, false, cond, not, ◌&&◌, List, [], ◌∷◌, Some, None, Option, ◌==◌, nat_le, nat_lt}
+use Rattle.std.specs.Prelude.{ℕ, Bool, cond, not, ◌&&◌, List, [], Some, None, Option, ◌==◌, nat_le, nat_lt}
 use Rattle.parts.specs.declared.store.Marks.{Marks}
 use Rattle.wire.specs.declared.key.Key.{Key}
-use Rattle.wire.specs.declared.message.Vote.{Vote}
-use Rattle.wire.specs.declared.statement.Statement.{Statement}
 use Rattle.wire.specs.declared.statement.Purpose.TheVariants as purpose
 use Rattle.rules.specs.declared.block.Block.{Block}
 use Rattle.rules.specs.declared.refusal.Refusal.{Refusal}
@@ -11,8 +9,8 @@ use Rattle.rules.specs.declared.refusal.Refusal.TheVariants.{ShelfSize, OldTick}
 use Rattle.rules.specs.Blocks.{Slot, block_key, held}
 use Rattle.rules.specs.Pit.{leader, view_of, for_proposing}
 use Rattle.rules.specs.Settle.{Settled, enter, settle}
-use Rattle.rules.specs.State.{State, Ledger, shelf_fits, saved, with_ledger}
-use Rattle.rules.specs.Step.{Answer, refused, turn, vote, nothing, Outcome, only}
+use Rattle.rules.specs.State.{State, shelf_fits, saved, with_ledger}
+use Rattle.rules.specs.Step.{refused, turn, vote, nothing, Outcome, only}
 
 -- The first ground on which tick t is refused.
 abbrev pub tick_ground : State → ℕ → Option Refusal

@@ -1,4 +1,6 @@
 // What a console does, as definitions (specs/), with the plain types that they speak of.
+#![tactic(auto)]
+
 ghost use Rattle.rules.specs.Laws.{CountedOnce, EveryHandOver, EveryVote, NoVoteLost};
 
 pub mod block;
