@@ -1,10 +1,10 @@
 -- The promise over whole shifts.
-use Rattle.std.specs.Prelude.{◌≡◌, ℕ, ◌⊎◌, List, [], ◌∷◌, ◌++◌, length, Some, None, Option}
+use Rattle.std.specs.Prelude.{◌≡◌, ℕ, ◌⊎◌, List, ◌++◌, length, Some}
 use Rattle.parts.specs.Fed.{fed}
 use Rattle.wire.specs.declared.body.Body.{Body}
 use Rattle.wire.specs.declared.order.Order.{Order}
 use Rattle.rules.specs.State.{State, look}
-use Rattle.sheets.specs.Sheet.{Pit, Sound, Line, Sheet, Spot, Moment, state_at, chain, all_orders, board_at, board_opened}
+use Rattle.sheets.specs.Sheet.{Pit, Sound, Sheet, Moment, state_at, chain, all_orders, board_at, board_opened}
 use Rattle.sheets.specs.Sound.{SoundSheet}
 use Rattle.sheets.specs.Timely.{Stretch, Timely, HandsOver}
 

@@ -7,7 +7,7 @@ use Rattle.wire.specs.declared.body.Body.{Body}
 use Rattle.wire.specs.declared.order.Order.{Order}
 use Rattle.wire.specs.declared.statement.Statement.{Statement}
 use Rattle.rules.specs.Call.{Call, opening, ticking, proposing, passing, hearing, step}
-use Rattle.rules.specs.State.{State, Seat, Table, opened}
+use Rattle.rules.specs.State.{State, Table, opened}
 use Rattle.rules.specs.Step.{Answer, opens, Outcome, only, Vouched}
 
 -- The consoles of a pit, numbered from 0 below n: which of them are sound, and what each one's seals accept.

@@ -1,5 +1,5 @@
 -- What is taken for granted of a sheet. Faulty consoles are bound by nothing here: any bytes may be heard at any time.
-use Rattle.std.specs.Prelude.{◌≡◌, ℕ, ◌^◌, ◌<◌, ◌≤◌, T, ◌⊎◌, List, [], ◌∷◌, ◌++◌, length, Some, None, Option, ◌≢◌}
+use Rattle.std.specs.Prelude.{◌≡◌, ℕ, ◌^◌, ◌<◌, ◌≤◌, T, length, Some, ◌≢◌}
 use mathlib.Core.List.{Memᴰ}
 use Rattle.std.specs.List.{AllByRecursion as All}
 use Rattle.votes.specs.Quorum.{Few}
@@ -10,7 +10,7 @@ use Rattle.wire.specs.declared.body.Body.{Body}
 use Rattle.wire.specs.declared.statement.Statement.{Statement}
 use Rattle.rules.specs.Call.{Call, opening, ticking, proposing, passing, hearing}
 use Rattle.rules.specs.Step.{turn, Owed, Vouched}
-use Rattle.sheets.specs.Sheet.{Pit, Sound, Line, Sheet, Spot, did, answer_in, shown_in, sealed_in, relied_in}
+use Rattle.sheets.specs.Sheet.{Pit, Sound, Sheet, Spot, did, answer_in, shown_in, sealed_in, relied_in}
 
 -- A pit has 4 to 16 consoles, and at most (n − 1) ÷ 3 of them are not sound. With more, two quorums need not share a
 -- sound console, and no method could keep chains together.

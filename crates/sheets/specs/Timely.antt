@@ -1,5 +1,5 @@
 -- A timely stretch: two views long, with sound leaders and a radio that brings everything in time.
-use Rattle.std.specs.Prelude.{◌≡◌, ℕ, ◌+◌, ◌*◌, ◌<◌, ◌≤◌, Bool, true, false, T, ◌⊎◌, List, [], ◌∷◌, ◌++◌, length, Some, None, Option, ◌≢◌}
+use Rattle.std.specs.Prelude.{◌≡◌, ℕ, ◌+◌, ◌*◌, ◌<◌, ◌≤◌, true, T, ◌⊎◌, List, ◌∷◌, ◌++◌, length, Some, None, Option, ◌≢◌}
 use mathlib.Core.List.{Memᴰ}
 use Rattle.wire.specs.Format.{vote_bytes}
 use Rattle.wire.specs.declared.body.Body.{Body}
@@ -10,7 +10,7 @@ use Rattle.rules.specs.declared.block.Block.{Block}
 use Rattle.rules.specs.declared.refusal.Refusal.{Refusal}
 use Rattle.rules.specs.declared.refusal.Refusal.TheVariants.{ShelfFull}
 use Rattle.rules.specs.Blocks.{held}
-use Rattle.rules.specs.Call.{Call, opening, ticking, proposing, passing, hearing}
+use Rattle.rules.specs.Call.{ticking, proposing, hearing}
 use Rattle.rules.specs.Pit.{leader}
 use Rattle.rules.specs.Settle.{reaches}
 use Rattle.rules.specs.State.{State}
@@ -40,8 +40,8 @@ module _ {sheet : Sheet} {v : ℕ} (st : Stretch sheet v) where
   Inside p = length st.before ≤ length p.earlier
 
   -- The one line came before the other.
-  abbrev pub Came-before : Spot st.run → Spot st.run → Type 0
-  Came-before p q = length p.earlier < length q.earlier
+  abbrev pub CameBefore : Spot st.run → Spot st.run → Type 0
+  CameBefore p q = length p.earlier < length q.earlier
 
 -- The message that a call made: a vote, or a proposal in its output.
 abbrev pub made_message : Answer → List ℕ → Option (List ℕ)
@@ -109,17 +109,17 @@ pub record Timely (pit : Pit) {sheet : Sheet} (v : ℕ) (st : Stretch sheet v) :
       → (r : Refusal) → answer_in (did pit p) ≢ Some (refused r)
   pub no_opening : (p : Spot st.run) → Inside st p → is_opening p.line.call ≢ true
   -- all take a tick before anything made at it is heard
-  pub tick_first : (q p : Spot st.run) (t : ℕ) (bytes : List ℕ) → Inside st q → Came-before st q p → Made pit q t bytes
+  pub tick_first : (q p : Spot st.run) (t : ℕ) (bytes : List ℕ) → Inside st q → CameBefore st q p → Made pit q t bytes
       → p.line.call ≡ hearing bytes → (i : ℕ) → Sound pit i
-      → (r : Spot st.run) × Inside st r × Came-before st r p × (r.line.console ≡ i) × (r.line.call ≡ ticking t)
+      → (r : Spot st.run) × Inside st r × CameBefore st r p × (r.line.console ≡ i) × (r.line.call ≡ ticking t)
   -- each leader's turn goes into an accepted propose
   pub first : Proposed pit st v
   pub second : Proposed pit st (v + 1)
   -- what a sound console makes at tick t is heard by all others before any takes tick t + 1
   pub in_time : (q : Spot st.run) (t : ℕ) (bytes : List ℕ) → Inside st q → Made pit q t bytes
       → (j : ℕ) → Sound pit j → (j ≢ q.line.console)
-      → (p : Spot st.run) × Came-before st q p × (p.line.console ≡ j) × (p.line.call ≡ hearing bytes)
-      × ((r : Spot st.run) → Inside st r → r.line.call ≡ ticking (t + 1) → Came-before st p r)
+      → (p : Spot st.run) × CameBefore st q p × (p.line.console ≡ j) × (p.line.call ≡ hearing bytes)
+      × ((r : Spot st.run) → Inside st r → r.line.call ≡ ticking (t + 1) → CameBefore st p r)
   -- when view v is proposed, the leader's top certificate's view is at least every lock, and each shelf holds all
   -- blocks after its head up to the block of that certificate
   pub top_reached : (l : State) → state_at pit (leader pit.n v) first.spot.earlier ≡ Some l → (i : ℕ) → Sound pit i

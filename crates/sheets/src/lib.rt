@@ -1,1 +1,3 @@
+#![tactic(auto)]
+
 // Shift sheets, what is taken for granted of them, and the promise over them: see specs/.

@@ -17,7 +17,7 @@ use Rattle.rules.specs.Settle.{reaches}
 use Rattle.rules.specs.State.{State}
 use Rattle.rules.specs.Step.{refused, Owed}
 use Rattle.sheets.specs.Sheet.{Pit, Sound, Sheet, Spot, state_at, did, answer_in, handed_in, shown_in, is_opening}
-use Rattle.sheets.specs.Timely.{Stretch, Timely, Inside, Came-before, Made, made_in, tick_in, Proposed, HoldsUpTo, OpenWith, HandsOver}
+use Rattle.sheets.specs.Timely.{Stretch, Timely, Inside, CameBefore, Made, made_in, tick_in, Proposed, HoldsUpTo, OpenWith, HandsOver}
 use Rattle.witness.proofs.Calls.{accepted, heard_is, heard_of, is_proposing, is_tick, is_tick_from, proposing_is, tick_is, tick_of}
 use Rattle.witness.proofs.Run.{Entry, Trace, Passes, at_every, at_some, entry, every, length_run, run, some, state_in, state-run}
 use Rattle.witness.proofs.Same.{body_among, body_is, bytes_same, key_is, same_body}
@@ -196,14 +196,14 @@ module _ (pit : Pit) {sheet : Sheet} {v : ℕ} (st : Stretch sheet v) where
   is-inside : (p : Spot st.run) → Inside st p → T (inside from (older p))
   is-inside p h = le→leb from (length (older p)) (subst (λ k. from ≤ k) (sym (length_run pit p.earlier)) h)
 
-  before-is : (p q : Spot st.run) → T (came_before (older p) (older q)) → Came-before st p q
+  before-is : (p q : Spot st.run) → T (came_before (older p) (older q)) → CameBefore st p q
   before-is p q t =
       let long = length_run pit p.earlier in
       let longer = length_run pit q.earlier in
       let order = ltb→lt (length (older p)) (length (older q)) t in
       omega arith
 
-  is-before : (p q : Spot st.run) → Came-before st p q → T (came_before (older p) (older q))
+  is-before : (p q : Spot st.run) → CameBefore st p q → T (came_before (older p) (older q))
   is-before p q h =
       let long = length_run pit p.earlier in
       let longer = length_run pit q.earlier in
@@ -265,9 +265,9 @@ module _ (pit : Pit) {sheet : Sheet} {v : ℕ} (st : Stretch sheet v) where
       (found.0, facts.0, facts.1, facts.2)
 
   ticked-first : T (every (tick_first pit v from whole) whole)
-      → (q p : Spot st.run) (t : ℕ) (bytes : List ℕ) → Inside st q → Came-before st q p → Made pit q t bytes
+      → (q p : Spot st.run) (t : ℕ) (bytes : List ℕ) → Inside st q → CameBefore st q p → Made pit q t bytes
       → p.line.call ≡ hearing bytes → (i : ℕ) → Sound pit i
-      → (r : Spot st.run) × Inside st r × Came-before st r p × (r.line.console ≡ i) × (r.line.call ≡ ticking t)
+      → (r : Spot st.run) × Inside st r × CameBefore st r p × (r.line.console ≡ i) × (r.line.call ≡ ticking t)
   ticked-first s q p t bytes in-q q-first made heard i sound =
       let test : List ℕ → Entry → Trace → Bool = took-first pit v from whole (older p) in
       let here = at_every pit (tick_first pit v from whole) s p in
@@ -288,7 +288,7 @@ module _ (pit : Pit) {sheet : Sheet} {v : ℕ} (st : Stretch sheet v) where
       (r, facts.0, before-is r p parts.1, facts.1, facts.2)
 
   later-is : (t : ℕ) (p : Spot st.run) → T (every (takes-later pit v from whole (older p) t) whole)
-      → (r : Spot st.run) → Inside st r → r.line.call ≡ ticking t → Came-before st p r
+      → (r : Spot st.run) → Inside st r → r.line.call ≡ ticking t → CameBefore st p r
   later-is t p s r in-r e =
       let here = at_every pit (takes-later pit v from whole (older p) t) s r in
       let ticks : Bool = is_tick t r.line.call in
@@ -298,8 +298,8 @@ module _ (pit : Pit) {sheet : Sheet} {v : ℕ} (st : Stretch sheet v) where
   heard-in-time : T (every (in_time pit v from whole) whole)
       → (q : Spot st.run) (t : ℕ) (bytes : List ℕ) → Inside st q → Made pit q t bytes
       → (j : ℕ) → Sound pit j → (j ≡ q.line.console → ⊥)
-      → (p : Spot st.run) × Came-before st q p × (p.line.console ≡ j) × (p.line.call ≡ hearing bytes)
-      × ((r : Spot st.run) → Inside st r → r.line.call ≡ ticking (t + 1) → Came-before st p r)
+      → (p : Spot st.run) × CameBefore st q p × (p.line.console ≡ j) × (p.line.call ≡ hearing bytes)
+      × ((r : Spot st.run) → Inside st r → r.line.call ≡ ticking (t + 1) → CameBefore st p r)
   heard-in-time s q t bytes in-q made j sound other =
       let u : ℕ = tick_in (did pit q) in
       let test : List ℕ → ℕ → Bool = other-hears pit v from whole (at q) (older q) in
