@@ -72,7 +72,7 @@ fn digit(n: u8) -> char
 
 // Writes the two digits of a byte.
 fn write_byte<W: fmt::Write>(f: &mut fmt::Formatter<W>, b: u8) -> fmt::Result
-    ensures { WritesOnOk write_str_gives f.old result (hex_digit (b / 16) ∷ hex_digit (b % 16) ∷ []) f.new }
+    ensures { WritesOnOk W.write_str_gives f.old result (hex_digit (b / 16) ∷ hex_digit (b % 16) ∷ []) f.new }
 {
     f.write_char(digit(b / 16))?;
     f.write_char(digit(b % 16))
@@ -80,7 +80,7 @@ fn write_byte<W: fmt::Write>(f: &mut fmt::Formatter<W>, b: u8) -> fmt::Result
 
 // Writes the digits of the bytes.
 fn write_pairs<W: fmt::Write>(f: &mut fmt::Formatter<W>, bytes: &[u8]) -> fmt::Result
-    ensures { WritesOnOk write_str_gives f.old result (hex_pairs bytes.now) f.new }
+    ensures { WritesOnOk W.write_str_gives f.old result (hex_pairs bytes.now) f.new }
 {
     for b in bytes {
         write_byte(f, *b)?;

@@ -3,7 +3,7 @@ ghost use Rattle.std.specs.Prelude.{◌≡◌, ◌+◌, ◌-◌, ◌*◌, ◌≤
 ghost use Rattle.std.specs.Option.{SomeIff};
 ghost use Rattle.text.specs.Decimal.{Digits, value, NumberRead, DecimalLaw};
 
-use std::fmt;
+use std::alloc::AllocError;
 
 // Why a field gives no number.
 #[derive(Clone, Copy, PartialEq, Eq, Debug)]
@@ -56,7 +56,7 @@ pub fn read_number(field: &[u8], highest: u64) -> Result<u64, NumberError>
 }
 
 // Adds the digits of n to the text, with no leading zero.
-pub fn write_number(text: &mut String, n: u64) -> fmt::Result
+pub fn write_number(text: &mut String, n: u64) -> Result<(), AllocError>
     ensures { OnOk result (string_bytes text.new ≡ string_bytes text.old ++ decimal n) }
 {
     write!(text, "{n}")

@@ -16,7 +16,7 @@ fn character(c: u8) -> char
 }
 
 fn write_characters<W: fmt::Write>(f: &mut fmt::Formatter<W>, bytes: &[u8]) -> fmt::Result
-    ensures { WritesOnOk write_str_gives f.old result (map printable bytes.now) f.new }
+    ensures { WritesOnOk W.write_str_gives f.old result (map printable bytes.now) f.new }
 {
     for c in bytes {
         f.write_char(character(*c))?;

@@ -13,7 +13,7 @@ pub returns-in_err-n : goal.returns-in_err-n
 returns-in_err-n c =
     let step = value_step c.loop-c.n c.args.field.now c.loop-c.c-index c.loop-c-test.true in
     let grown = value_grows (c.loop-c.n * 10 + (get_or c.args.field.now c.loop-c.c-index 0 - 48)) (drop (c.loop-c.c-index + 1) c.args.field.now) in
-    rw c.from-residual.ensures (λ low. c.in_err-n.ensures (omega arith))
+    rw c.from_residual.ensures (λ low. c.in_err-n.ensures (omega arith))
 
 pub loop-c-preserved : goal.loop-c-preserved
 loop-c-preserved c =
