@@ -1,12 +1,12 @@
 -- Fields that are taken one after another.
-use Rattle.std.proofs.Common.{◌≡◌, ℕ, Bool, true, false, not, List, [], ◌∷◌, ◌++◌, codes, MatchBool, Result, sym, ap, ◌∙◌, subst, append_assoc, append-nil, MatchResult}
+use Rattle.std.proofs.Common.{◌≡◌, ℕ, Bool, true, false, not, List, [], ◌∷◌, ◌++◌, codes, MatchBool, Result, sym, ◌∙◌, subst, append_assoc, append-nil, MatchResult}
 use Rattle.std.specs.Str.{bytes_eq}
 use Rattle.text.specs.Splitting.{none_left, Leaves}
 use Rattle.text.specs.declared.fields.FieldError.{FieldError}
 use Rattle.wire.specs.declared.order.Order.{Order}
 use Rattle.script.specs.Arguments.{HasNumber, HasShort, Possible}
 use Rattle.script.specs.OrderFields.{HasLast, HasSend, HasRelease, HasLoad, HasOrder, HasOrders, OrdersDue}
-use Rattle.script.specs.declared.command.NewBoard.TheVariants.{Assignment, Tonnage}
+use Rattle.script.specs.declared.command.NewBoard.TheVariants.{Tonnage}
 use Rattle.script.specs.Boards.{HasAssignment, HasBoard}
 use Rattle.script.specs.Faults.{Refutes}
 use Rattle.script.proofs.Sequence.{Single, not_ended}

@@ -1,5 +1,5 @@
 -- What a fault says of a line.
-use Rattle.std.specs.Prelude.{◌≡◌, ℕ, List, ◌++◌, map, take, codes, decimal, ◌≢◌}
+use Rattle.std.specs.Prelude.{ℕ, List, ◌++◌, map, take, codes, decimal, ◌≢◌}
 use Rattle.text.specs.Messages.{printable}
 use Rattle.text.specs.declared.fields.FieldError.{FieldError}
 use Rattle.text.specs.declared.fields.FieldError.TheVariants.{Missing, Empty, TooMany}

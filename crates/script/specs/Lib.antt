@@ -2,4 +2,5 @@ pub mod Faults
 pub mod Arguments
 pub mod OrderFields
 pub mod Boards
+pub mod Commands
 pub mod Lines

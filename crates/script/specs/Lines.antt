@@ -1,6 +1,11 @@
 -- The lines of a sheet.
-use Rattle.std.specs.Prelude.{◌≡◌, ℕ, ◌-◌, cond, List, ◌∷◌, length, take, ◌==◌, slice_index}
+use Rattle.std.specs.Prelude.{◌≡◌, ℕ, ◌-◌, cond, ◌⊎◌, List, ◌∷◌, length, take, Some, None, Ok, Err, Option, Result, ◌==◌, slice_index}
 use Rattle.std.specs.List.{AllByRecursion as All}
+use Rattle.text.specs.Splitting.{split}
+use Rattle.script.specs.declared.command.Command.{Command}
+use Rattle.script.specs.declared.fault.Fault.{Fault}
+use Rattle.script.specs.Commands.{Says}
+use Rattle.script.specs.Faults.{Refutes}
 
 -- all but the newline, where the last byte is one
 abbrev pub without_newline : List ℕ → List ℕ
@@ -13,3 +18,9 @@ Blank line = All (λ c. c ≡ 32) line
 -- it begins with `#`
 abbrev pub Comment : List ℕ → Type 0
 Comment line = (rest : List ℕ) × (line ≡ 35 ∷ rest)
+
+-- what reading a line answers: nothing just at those that are passed over, else a command that the line says, or a fault that rules every command out
+abbrev pub LineReads : List ℕ → Result (Option Command) Fault → Type 0
+LineReads line (Ok None) = Blank line ⊎ Comment line
+LineReads line (Ok (Some c)) = ((Blank line ⊎ Comment line) → ⊥) × Says (split line) c
+LineReads line (Err e) = ((Blank line ⊎ Comment line) → ⊥) × Refutes e ((c : Command) × Says (split line) c)

@@ -1,6 +1,6 @@
 // The fields after the word of a line.
 ghost use Rattle.std.specs.Prelude.{MatchResult};
-ghost use Rattle.script.specs.Arguments.{HasBytes, HasKey, HasNumber, HasConsoles, Possible, Takes, fields_of};
+ghost use Rattle.script.specs.Arguments.{HasBytes, HasKey, HasNumber, HasConsoles, HasShort, Possible, Takes, fields_of};
 ghost use Rattle.script.specs.Faults.{Refutes};
 
 use crate::fault::Fault;
@@ -31,7 +31,7 @@ pub fn key<'a>(heap: Global, fields: &mut Fields<'a>) -> Result<[u8; 32], Fault<
 }
 
 // Takes a field of a number that is at most the highest.
-fn number<'a>(fields: &mut Fields<'a>, highest: u64) -> Result<u64, Fault<'a>>
+pub fn number<'a>(fields: &mut Fields<'a>, highest: u64) -> Result<u64, Fault<'a>>
     ensures { Takes (HasNumber highest) (fields_of fields.old) result (fields_of fields.new) }
 {
     let field = fields.next()?;
@@ -53,13 +53,20 @@ pub fn byte<'a>(fields: &mut Fields<'a>, highest: u8) -> Result<u8, Fault<'a>>
 }
 
 // Takes a field of a number of two bytes that is at most the highest.
-pub fn short<'a>(fields: &mut Fields<'a>, highest: u16) -> Result<u16, Fault<'a>>
+pub fn short_up_to<'a>(fields: &mut Fields<'a>, highest: u16) -> Result<u16, Fault<'a>>
     ensures { Takes (HasNumber highest) (fields_of fields.old) result (fields_of fields.new) }
 {
     match number(fields, u64::from(highest)) {
         Ok(n) => Ok(n as u16),
         Err(fault) => Err(fault),
     }
+}
+
+// Takes a field of a number of two bytes.
+pub fn short<'a>(fields: &mut Fields<'a>) -> Result<u16, Fault<'a>>
+    ensures { Takes HasShort (fields_of fields.old) result (fields_of fields.new) }
+{
+    short_up_to(fields, 65535)
 }
 
 // Takes a field of a number of four bytes that is at most the highest.

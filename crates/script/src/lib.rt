@@ -1,4 +1,6 @@
-// The parts of a line of a shift sheet, and why a line cannot be read.
+// One line of a shift sheet: its parts, the command that it gives, or why it cannot be read.
+#![tactic(auto)]
+
 pub mod arguments;
 pub mod command;
 pub mod fault;

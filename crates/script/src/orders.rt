@@ -39,7 +39,7 @@ fn last<'a>(fields: &mut Fields<'a>) -> Result<(u16, bool), Fault<'a>>
 fn send<'a>(fields: &mut Fields<'a>) -> Result<(Order, bool), Fault<'a>>
     ensures { Takes HasSend (fields_of fields.old) result (fields_of fields.new) }
 {
-    let truck = short(fields, 65535)?;
+    let truck = short(fields)?;
     let (place, more) = last(fields)?;
     Ok((Order::Send { truck, place }, more))
 }
@@ -54,8 +54,8 @@ fn release<'a>(fields: &mut Fields<'a>) -> Result<(Order, bool), Fault<'a>>
 fn load<'a>(fields: &mut Fields<'a>) -> Result<(Order, bool), Fault<'a>>
     ensures { Takes HasLoad (fields_of fields.old) result (fields_of fields.new) }
 {
-    let truck = short(fields, 65535)?;
-    let place = short(fields, 65535)?;
+    let truck = short(fields)?;
+    let place = short(fields)?;
     let (amount, more) = last(fields)?;
     let order = Order::Load {
         truck,

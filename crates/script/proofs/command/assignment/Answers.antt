@@ -6,7 +6,7 @@ use Rattle.script.proofs.command.assignment.Goals as goal
 
 pub returns-in_err-lines : goal.returns-in_err-lines
 returns-in_err-lines c =
-    let p = err_from_is_err_and c.from-residual.result c.from-residual.ensures.1 in
+    let p = err_from_is_err_and c.from_residual.result c.from_residual.ensures.1 in
     rw (p.1, p.2)
     (λ memory other.
     let said = other.2 in
@@ -14,7 +14,7 @@ returns-in_err-lines c =
 
 pub returns-in_err-limit : goal.returns-in_err-limit
 returns-in_err-limit c =
-    let p = err_from_is_err_and c.from-residual-in_err-limit.result c.from-residual-in_err-limit.ensures.1 in
+    let p = err_from_is_err_and c.from_residual-in_err-limit.result c.from_residual-in_err-limit.ensures.1 in
     rw (p.1, p.2)
     (λ memory other.
     let said = other.2 in

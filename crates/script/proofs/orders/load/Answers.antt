@@ -7,7 +7,7 @@ use Rattle.script.proofs.orders.load.Goals as goal
 
 pub returns-in_err-truck : goal.returns-in_err-truck
 returns-in_err-truck c =
-    let p = err_from_is_err_and c.from-residual.result c.from-residual.ensures.1 in
+    let p = err_from_is_err_and c.from_residual.result c.from_residual.ensures.1 in
     rw (p.1, p.2)
     (λ memory other.
     let said = other.2 in
@@ -15,7 +15,7 @@ returns-in_err-truck c =
 
 pub returns-in_err-place : goal.returns-in_err-place
 returns-in_err-place c =
-    let p = err_from_is_err_and c.from-residual-in_err-place.result c.from-residual-in_err-place.ensures.1 in
+    let p = err_from_is_err_and c.from_residual-in_err-place.result c.from_residual-in_err-place.ensures.1 in
     rw (p.1, p.2)
     (λ memory other.
     let said = other.2 in
@@ -24,7 +24,7 @@ returns-in_err-place c =
 
 pub returns-in_err-amount : goal.returns-in_err-amount
 returns-in_err-amount c =
-    let p = err_from_is_err_and c.from-residual-in_err-amount.result c.from-residual-in_err-amount.ensures.1 in
+    let p = err_from_is_err_and c.from_residual-in_err-amount.result c.from_residual-in_err-amount.ensures.1 in
     rw (p.1, p.2)
     (λ memory other.
     let said = other.2 in

@@ -6,7 +6,7 @@ use Rattle.script.proofs.orders.orders.Goals as goal
 
 pub returns-in_err-order : goal.returns-in_err-order
 returns-in_err-order c =
-    let p = err_from_is_err_and c.from-residual.result c.from-residual.ensures.1 in
+    let p = err_from_is_err_and c.from_residual.result c.from_residual.ensures.1 in
     rw (p.1, p.2)
     (λ memory other.
     orders-fault _ _ _ _ _ c.loop-due.invariant c.is_empty-due.ensures c.loop-due-test.true (c.in_err-order.ensures memory) other.0 other.1)
@@ -21,7 +21,7 @@ loop-due-preserved c =
 
 pub returns-in_err-end : goal.returns-in_err-end
 returns-in_err-end c =
-    let p = err_from_is_err_and c.from-residual-in_err-end.result c.from-residual-in_err-end.ensures.1 in
+    let p = err_from_is_err_and c.from_residual-in_err-end.result c.from_residual-in_err-end.ensures.1 in
     rw (p.1, p.2)
     (λ memory other.
     orders-left _ _ _ _ _ c.loop-due.invariant _ c.is_empty-due.ensures c.loop-due-test.false c.in_err-end.ensures other.0 other.1)

@@ -12,13 +12,13 @@ first_bytes (suc n) (suc k) (b ∷ bs) e = ap (λ (l : List ℕ). b ∷ l) (firs
 pub returns-in-UnknownWord-clause-writes : goal.returns-in-UnknownWord-clause-writes
 returns-in-UnknownWord-clause-writes g c plain ok =
     let first = first_bytes (c.min.result - 0) 32 c.in-UnknownWord.word.now (omega arith) in
-    rw (c.in-UnknownWord.is, ← first) (c.write.ensures.shows plain ok)
+    rw (c.in-UnknownWord.is, ← first) (c.write.ensures.writes plain ok)
 
 pub returns-in-Above-clause-writes : goal.returns-in-Above-clause-writes
-returns-in-Above-clause-writes g c plain ok = rw c.in-Above.is (c.write-in-Above.ensures.shows plain ok)
+returns-in-Above-clause-writes g c plain ok = rw c.in-Above.is (c.write-in-Above.ensures.writes plain ok)
 
 pub returns-in-Below-clause-writes : goal.returns-in-Below-clause-writes
-returns-in-Below-clause-writes g c plain ok = rw c.in-Below.is (c.write-in-Below.ensures.shows plain ok)
+returns-in-Below-clause-writes g c plain ok = rw c.in-Below.is (c.write-in-Below.ensures.writes plain ok)
 
 pub returns-in-TooManyFields-clause-writes : goal.returns-in-TooManyFields-clause-writes
 returns-in-TooManyFields-clause-writes g c plain ok = rw c.in-TooManyFields.is (c.write_str-in-TooManyFields.ensures.writes plain ok)
