@@ -1,4 +1,6 @@
 // Why the chains of sound consoles never part: see specs/ for the statements, proofs/ for the argument.
+#![tactic(auto)]
+
 ghost use Rattle.safety.specs.Agreement.{BoardsShow, ChainsAgree, ChainsCounted};
 
 use parts::board::Board;
