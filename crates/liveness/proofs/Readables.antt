@@ -1,6 +1,6 @@
 -- What sound consoles make can be read.
 use Rattle.std.proofs.Common.{◌≡◌, ℕ, ◌-◌, ◌^◌, ◌<◌, ◌≤◌, true, not, ◌&&◌, ◌||◌, eqb, ltb, leb, List, [], ◌∷◌, ◌++◌, length, replicate, Some, None, Ok, Option, sym, refl, ap, ◌∙◌, subst, inl, inr, ⊎_elim, arith, pow_mono}
-use Rattle.std.specs.List.{AllByRecursion as All}
+use Rattle.std.specs.List.{AllByRecursion}
 use Rattle.std.proofs.lemmas.List.{take_at}
 use Rattle.std.proofs.lemmas.Bool.{cases_Bool, cond_both, and_from, and_parts, or_left, or_right, ltb-true, lt-ltb, leb-true, le-leb, eqb-true}
 use Rattle.digest.proofs.Blocks.{length-digest}
@@ -274,7 +274,7 @@ module _ (pit : Pit) (sheet : Sheet) (good : SoundSheet pit sheet) where
             parent = key;
             packed = ap pack (sym same);
             few = omega (arith, ap (λ (x : List Order). length x) same, few);
-            orders = subst (All OrderFits) (sym same) typed.1;
+            orders = subst (AllByRecursion OrderFits) (sym same) typed.1;
           };
           certificate = record { block = key; set = set; sixteen = f.top.signers.sixteen; seals = f.top.signers.seals; absent = f.top.signers.absent };
           seal = seal;

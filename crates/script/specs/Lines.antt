@@ -1,6 +1,6 @@
 -- The lines of a sheet.
 use Rattle.std.specs.Prelude.{◌≡◌, ℕ, ◌-◌, cond, ◌⊎◌, List, ◌∷◌, length, take, Some, None, Ok, Err, Option, Result, ◌==◌, slice_index}
-use Rattle.std.specs.List.{AllByRecursion as All}
+use Rattle.std.specs.List.{AllByRecursion}
 use Rattle.text.specs.Splitting.{split}
 use Rattle.script.specs.declared.command.Command.{Command}
 use Rattle.script.specs.declared.fault.Fault.{Fault}
@@ -13,7 +13,7 @@ without_newline line = cond (slice_index line (length line - 1) == 10) (take (le
 
 -- spaces only, or nothing
 abbrev pub Blank : List ℕ → Type 0
-Blank line = All (λ c. c ≡ 32) line
+Blank line = AllByRecursion (λ c. c ≡ 32) line
 
 -- it begins with `#`
 abbrev pub Comment : List ℕ → Type 0

@@ -1,7 +1,7 @@
 -- What is taken for granted of a sheet. Faulty consoles are bound by nothing here: any bytes may be heard at any time.
 use Rattle.std.specs.Prelude.{◌≡◌, ℕ, ◌^◌, ◌<◌, ◌≤◌, T, length, Some, ◌≢◌}
 use mathlib.Core.List.{Memᴰ}
-use Rattle.std.specs.List.{AllByRecursion as All}
+use Rattle.std.specs.List.{AllByRecursion}
 use Rattle.votes.specs.Quorum.{Few}
 use Rattle.wire.specs.Bytes.{Octets}
 use Rattle.wire.specs.Canon.{OrderFits}
@@ -24,7 +24,7 @@ pub record SoundPit (pit : Pit) : Type 0 where
 abbrev pub TypedCall : Call → Type 0
 TypedCall (opening slots) = Unit {0}
 TypedCall (ticking t) = t < 2 ^ 32
-TypedCall (proposing owed orders space) = (owed.view < 2 ^ 32) × All OrderFits orders
+TypedCall (proposing owed orders space) = (owed.view < 2 ^ 32) × AllByRecursion OrderFits orders
 TypedCall (passing owed) = Unit {0}
 TypedCall (hearing bytes) = Octets bytes
 

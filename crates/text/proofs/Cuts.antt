@@ -1,6 +1,6 @@
 -- Lines cut at their spaces.
 use Rattle.std.proofs.Common.{◌≡◌, ℕ, zero, suc, ◌<◌, Bool, true, false, cond, not, eqb, List, [], ◌∷◌, length, get_or, take, drop, is_some, Some, None, Option, refl, ap, ◌∙◌, arith}
-use Rattle.std.specs.List.{AllByRecursion as All}
+use Rattle.std.specs.List.{AllByRecursion}
 use Rattle.std.proofs.lemmas.Bool.Decides.{nat_tests}
 use Rattle.std.specs.Option.{option_map}
 use Rattle.text.specs.Splitting.{left, none_left, led, split, joined, Spaceless, SplitLaw}
@@ -11,7 +11,7 @@ joined_led c [] = refl
 joined_led c (f ∷ []) = refl
 joined_led c (f ∷ g ∷ fs) = refl
 
-spaceless_led : (c : ℕ) (fs : List (List ℕ)) → (c ≡ 32 → ⊥) → All Spaceless fs → All Spaceless (led c fs)
+spaceless_led : (c : ℕ) (fs : List (List ℕ)) → (c ≡ 32 → ⊥) → AllByRecursion Spaceless fs → AllByRecursion Spaceless (led c fs)
 spaceless_led c [] no-space all = ((no-space, tt), tt)
 spaceless_led c (f ∷ fs) no-space all = ((no-space, all.0), all.1)
 
@@ -25,7 +25,7 @@ split_some : (line : List ℕ) → 0 < length (split line)
 split_some [] = omega arith
 split_some (c ∷ cs) = some_more (eqb c 32) c (split cs)
 
-cut_more : (space : Bool) (c : ℕ) (cs : List ℕ) (fs : List (List ℕ)) → (space ≡ true → c ≡ 32) → (space ≡ false → c ≡ 32 → ⊥) → 0 < length fs → joined fs ≡ cs → All Spaceless fs → (joined (cond space ([] ∷ fs) (led c fs)) ≡ c ∷ cs) × All Spaceless (cond space ([] ∷ fs) (led c fs))
+cut_more : (space : Bool) (c : ℕ) (cs : List ℕ) (fs : List (List ℕ)) → (space ≡ true → c ≡ 32) → (space ≡ false → c ≡ 32 → ⊥) → 0 < length fs → joined fs ≡ cs → AllByRecursion Spaceless fs → (joined (cond space ([] ∷ fs) (led c fs)) ≡ c ∷ cs) × AllByRecursion Spaceless (cond space ([] ∷ fs) (led c fs))
 cut_more true c cs [] is not some e all = absurd (omega arith)
 cut_more true c cs (f ∷ fs) is not some e all = let b = is refl in ((cc), (tt, all))
 cut_more false c cs fs is not some e all = (joined_led c fs ∙ ap (λ (l : List ℕ). c ∷ l) e, spaceless_led c fs (not refl) all)

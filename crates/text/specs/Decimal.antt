@@ -1,12 +1,12 @@
 -- Numbers as a field of decimal digits.
 use Rattle.std.specs.Prelude.{◌≡◌, ℕ, ◌+◌, ◌-◌, ◌*◌, ◌^◌, ◌<◌, ◌≤◌, List, [], ◌∷◌, length, Ok, Err, decimal, Result}
-use Rattle.std.specs.List.{AllByRecursion as All}
+use Rattle.std.specs.List.{AllByRecursion}
 use Rattle.text.specs.declared.number.NumberError.{NumberError}
 use Rattle.text.specs.declared.number.NumberError.TheVariants.{NotDigits, Above}
 
 -- each is a digit `0` to `9`
 abbrev pub Digits : List ℕ → Type 0
-Digits ds = All (λ c. (48 ≤ c) × (c ≤ 57)) ds
+Digits ds = AllByRecursion (λ c. (48 ≤ c) × (c ≤ 57)) ds
 
 -- the number that these digits denote, after n was read
 abbrev pub value_after : ℕ → List ℕ → ℕ

@@ -1,6 +1,6 @@
 -- Bytes as a field of lowercase hexadecimal.
 use Rattle.std.specs.Prelude.{◌≡◌, ℕ, ◌+◌, ◌/◌, ◌%◌, ◌<◌, cond, List, [], ◌∷◌, ◌≢◌, nat_lt}
-use Rattle.std.specs.List.{AllByRecursion as All}
+use Rattle.std.specs.List.{AllByRecursion}
 use Rattle.text.specs.declared.hex.HexError.{HexError}
 use Rattle.text.specs.declared.hex.HexError.TheVariants.{NotHex, NoMemory}
 
@@ -19,7 +19,7 @@ hex_written [] = 45 ∷ []
 hex_written (b ∷ bs) = hex_pairs (b ∷ bs)
 
 abbrev pub Bytes : List ℕ → Type 0
-Bytes bs = All (λ b. b < 256) bs
+Bytes bs = AllByRecursion (λ b. b < 256) bs
 
 -- no bytes have these pairs
 abbrev pub NoPairs : List ℕ → Type 0

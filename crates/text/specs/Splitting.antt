@@ -1,6 +1,6 @@
 -- A line as fields that are separated by single spaces.
 use Rattle.std.specs.Prelude.{◌≡◌, ℕ, ◌<◌, Bool, true, false, cond, List, [], ◌∷◌, ◌++◌, length, Some, None, Option, ◌==◌, ◌≢◌}
-use Rattle.std.specs.List.{AllByRecursion as All}
+use Rattle.std.specs.List.{AllByRecursion}
 use Rattle.text.specs.declared.fields.FieldError.{FieldError}
 use Rattle.text.specs.declared.fields.FieldError.TheVariants.{Missing, Empty, TooMany}
 
@@ -21,11 +21,11 @@ joined (f ∷ []) = f
 joined (f ∷ g ∷ fs) = f ++ 32 ∷ joined (g ∷ fs)
 
 abbrev pub Spaceless : List ℕ → Type 0
-Spaceless f = All (λ c. c ≢ 32) f
+Spaceless f = AllByRecursion (λ c. c ≢ 32) f
 
 -- the fields of a line, joined, are the line, and no field holds a space
 abbrev pub SplitLaw : Type 0
-SplitLaw = (line : List ℕ) → (joined (split line) ≡ line) × All Spaceless (split line)
+SplitLaw = (line : List ℕ) → (joined (split line) ≡ line) × AllByRecursion Spaceless (split line)
 
 -- the fields that are left, of what is left of a line: none once the last one is taken
 abbrev pub left : Option (List ℕ) → List (List ℕ)

@@ -1,7 +1,7 @@
 -- Votes and locks: chains never part.
 use Rattle.std.proofs.Common.{◌≡◌, ℕ, zero, suc, ◌<◌, ◌≤◌, Bool, ◌⊎◌, List, [], ◌∷◌, ◌++◌, reverse, sym, refl, ap, ◌∙◌, subst, ap₂, inl, inr, ⊎_elim, eq-or-lt_of_le, arith}
 use mathlib.Core.List.{reverse_aux, reverse-reverse}
-use Rattle.std.specs.List.{AllByRecursion as All}
+use Rattle.std.specs.List.{AllByRecursion}
 use Rattle.std.proofs.lemmas.Bool.{cases_lt}
 use Rattle.votes.specs.Quorum.{Few, Light, total}
 use Rattle.votes.specs.Votes.{Blocks, Consoles, counted_consoles, weighed_consoles, QuorumsMeet, History, own_view, parent_view, Among, Sound, Voted, Certified, Final, Rising, Lawful, Chain, Ancestor, Settled, Prefix, Agreement, Ancestry}
@@ -19,7 +19,7 @@ meet_by_weight n w sound some light q r lq lr a b = share n w sound some light q
 -- ---- lists
 
 -- what holds of all holds of one among them
-pub among_all : {X : Type 0} (P : X → Type 0) (xs : List X) (x : X) → All P xs → Among x xs → P x
+pub among_all : {X : Type 0} (P : X → Type 0) (xs : List X) (x : X) → AllByRecursion P xs → Among x xs → P x
 among_all P [] x a m = absurd m
 among_all P (y ∷ ys) x a (inl e) = subst P (sym e) a.0
 among_all P (y ∷ ys) x a (inr m) = among_all P ys x a.1 m

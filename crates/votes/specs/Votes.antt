@@ -1,6 +1,6 @@
 -- Votes for blocks, certificates, final blocks and chains, with nothing said of how a console comes to its votes.
 use Rattle.std.specs.Prelude.{◌≡◌, ℕ, suc, ◌^◌, ◌<◌, ◌≤◌, Bool, T, ◌⊎◌, List, [], ◌∷◌, ◌++◌}
-use Rattle.std.specs.List.{AllByRecursion as All}
+use Rattle.std.specs.List.{AllByRecursion}
 use Rattle.votes.specs.Quorum.{Holds, Shared, is_quorum, is_weighty}
 
 -- Blocks as votes see them: a body has a key and names its parent by key, and a key has a view.
@@ -76,7 +76,7 @@ pub record Final (B : Blocks) (c : Consoles) (h : History B) (k : B.Key) : Type 
 -- Votes, newest first, in strictly rising views and with parents' views that never fall.
 abbrev pub Rising : (B : Blocks) → List B.Body → Type 0
 Rising B [] = Unit {0}
-Rising B (b ∷ bs) = All (λ a. (own_view B a < own_view B b) × (parent_view B a ≤ parent_view B b)) bs × Rising B bs
+Rising B (b ∷ bs) = AllByRecursion (λ a. (own_view B a < own_view B b) × (parent_view B a ≤ parent_view B b)) bs × Rising B bs
 
 -- the view of the last vote: 0 before the first
 abbrev pub last_view : (B : Blocks) → List B.Body → ℕ

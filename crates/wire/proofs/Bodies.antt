@@ -5,7 +5,7 @@ use Rattle.std.proofs.lemmas.Slice.Eq.{bytes_eq-Decides}
 use Rattle.std.proofs.lemmas.List.{append-nil, append_assoc, nil_from_length, take-append-drop, take_at, drop_at, drop-drop, drop_all, length-take, length-drop}
 use Rattle.std.proofs.lemmas.Bool.{cond_both, and_parts}
 use Rattle.std.proofs.lemmas.Bool.Decides.{nat_tests}
-use Rattle.std.specs.List.{flat_map, AllByRecursion as All}
+use Rattle.std.specs.List.{flat_map, AllByRecursion}
 use Rattle.wire.specs.Bytes.{be, num, field, number, Octets}
 use Rattle.wire.specs.Canon.{OrderFits, KeyFits, BodyFits}
 use Rattle.wire.specs.Format.{order_bytes, key_bytes, body_bytes, blank, pack, orders_of, well_formed}
@@ -25,7 +25,7 @@ order_forth (Send truck place) h = λ i. Send (num_be 2 truck h.0 i) (num_be 2 p
 order_forth (Release truck) h = λ i. Release (num_be 2 truck h i)
 order_forth (Load truck place amount) h = λ i. Load (num_be 2 truck h.0 i) (num_be 2 place h.1 i) (num_be 2 amount h.2 i)
 
-pub orders_forth : (os : List Order) → All OrderFits os → orders_in (length os) (flat_map order_bytes os) ≡ os
+pub orders_forth : (os : List Order) → AllByRecursion OrderFits os → orders_in (length os) (flat_map order_bytes os) ≡ os
 unfolding orders_in
 orders_forth [] h = refl
 orders_forth (o ∷ os) h =

@@ -1,10 +1,10 @@
 -- Numbers as bytes, most significant first, and parts of a list of bytes.
 use Rattle.std.specs.Prelude.{ℕ, zero, suc, ◌+◌, ◌*◌, ◌/◌, ◌%◌, ◌^◌, ◌<◌, List, [], ◌∷◌, length, take, drop}
-use Rattle.std.specs.List.{AllByRecursion as All}
+use Rattle.std.specs.List.{AllByRecursion}
 
 -- every number is a byte
 abbrev pub Octets : List ℕ → Type 0
-Octets bytes = All (λ b. b < 256) bytes
+Octets bytes = AllByRecursion (λ b. b < 256) bytes
 
 -- the number v in `width` bytes
 unfoldable pub be : ℕ → ℕ → List ℕ

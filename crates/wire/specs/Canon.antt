@@ -1,6 +1,6 @@
 -- The values that a message may hold: what each field of the bytes has room for.
 use Rattle.std.specs.Prelude.{◌≡◌, ℕ, ◌^◌, ◌<◌, ◌≤◌, true, false, List, [], length, slice_index_or}
-use Rattle.std.specs.List.{AllByRecursion as All}
+use Rattle.std.specs.List.{AllByRecursion}
 use Rattle.wire.specs.Format.{orders_of, pack, signed, no_seal}
 use Rattle.wire.specs.Read.{proposal_stands, vote_stands}
 use Rattle.wire.specs.declared.body.Body.{Body}
@@ -30,7 +30,7 @@ pub record BodyFits (b : Body) : Type 0 where
   pub parent : KeyFits b.parent
   pub packed : b.orders ≡ pack (orders_of b.orders)
   pub few : length (orders_of b.orders) ≤ 8
-  pub orders : All OrderFits (orders_of b.orders)
+  pub orders : AllByRecursion OrderFits (orders_of b.orders)
 
 -- sixteen seals of 16 bytes, zeros but for the signers
 pub record CertificateFits (c : Certificate) : Type 0 where

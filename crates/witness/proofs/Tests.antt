@@ -2,7 +2,7 @@
 use Rattle.std.proofs.Common.{◌≡◌, ℕ, zero, suc, ◌<◌, Bool, true, false, ◌&&◌, ◌||◌, T, eqb, ◌⊎◌, List, [], ◌∷◌, Some, None, Option, sym, refl, subst, inl, inr, arith}
 use mathlib.Core.List.{Memᴰ}
 use Rattle.std.proofs.lemmas.Bool.Decides.{eqb_tells}
-use Rattle.std.specs.List.{AllByRecursion as All}
+use Rattle.std.specs.List.{AllByRecursion}
 use Rattle.sheets.specs.Sheet.{Pit, Sound}
 
 pub both : (a b : Bool) → T (a && b) → T a × T b
@@ -51,7 +51,7 @@ unfoldable pub any_of : {A : Type 0} → (A → Bool) → List A → Bool
 any_of f [] = false
 any_of f (x ∷ xs) = f x || any_of f xs
 
-pub all_is : {A : Type 0} (f : A → Bool) (P : A → Type 0) → ((x : A) → T (f x) → P x) → (xs : List A) → T (all_of f xs) → All P xs
+pub all_is : {A : Type 0} (f : A → Bool) (P : A → Type 0) → ((x : A) → T (f x) → P x) → (xs : List A) → T (all_of f xs) → AllByRecursion P xs
 unfolding all_of
 all_is f P each [] t = tt
 all_is f P each (x ∷ xs) t =
