@@ -13,7 +13,7 @@ use Rattle.rules.specs.declared.block.Block.{Block}
 use Rattle.rules.specs.Blocks.{On, held}
 use Rattle.rules.specs.Call.{ticking}
 use Rattle.rules.specs.Pit.{leader, view_of}
-use Rattle.rules.specs.Settle.{settle, certified, reaches}
+use Rattle.rules.specs.Settle.{settle, reaches}
 use Rattle.rules.specs.State.{State, Ledger}
 use Rattle.rules.specs.Step.{Owed, Outcome}
 use Rattle.rules.specs.Tick.{clocked}

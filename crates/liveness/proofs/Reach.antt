@@ -4,7 +4,7 @@ use Rattle.std.proofs.lemmas.Bool.{cond-true, both_ways, or_cases, or_left, or_r
 use Rattle.votes.specs.Votes.{Blocks, Consoles, History, Among, Certified, Backed, Final, Lawful, Chain, Ancestor}
 use Rattle.votes.proofs.Agree.{chain-push, final-ancestor, common}
 use Rattle.votes.proofs.Grow.{chain_length}
-use Rattle.wire.specs.Format.{body_key, origin, same_key}
+use Rattle.wire.specs.Format.{body_key, same_key}
 use Rattle.wire.specs.declared.body.Body.{Body}
 use Rattle.wire.specs.declared.key.Key.{Key}
 use Rattle.rules.specs.declared.block.Block.{Block}

@@ -23,7 +23,7 @@ use Rattle.rules.specs.Propose.{propose, propose_body, body_on_top, fits_shelf}
 use Rattle.rules.specs.Settle.{settle, enter}
 use Rattle.rules.specs.State.{State, Ledger, Seat, Table, shelf_fits}
 use Rattle.rules.specs.Step.{Answer, refused, Owed, Outcome}
-use Rattle.rules.specs.Tick.{tick, clocked, candidate_block, may_vote, vote_for}
+use Rattle.rules.specs.Tick.{clocked, candidate_block, may_vote, vote_for}
 use Rattle.rules.specs.Options.{same_some}
 use Rattle.sheets.specs.Sheet.{Sound, Sheet, Spot, state_at, did, answer_in, shown_in, sealed_in}
 use Rattle.sheets.specs.Sound.{Sealed}

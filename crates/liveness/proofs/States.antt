@@ -14,7 +14,7 @@ use Rattle.rules.specs.Pit.{leader, view_of}
 use Rattle.rules.specs.Propose.{propose_body}
 use Rattle.rules.specs.Settle.{settle, fresh, placed, with_top, with_tally, joined, enter}
 use Rattle.rules.specs.State.{State, Seat, Ledger, opened, saved, with_ledger, with_candidate, or_candidate}
-use Rattle.rules.specs.Tick.{tick, clocked, candidate_block}
+use Rattle.rules.specs.Tick.{clocked, candidate_block}
 use Rattle.rules.specs.Options.{absent}
 use Rattle.sheets.specs.Sheet.{Pit, Sound, Sheet}
 use Rattle.sheets.specs.Sound.{Sealed}

@@ -7,7 +7,6 @@ use Rattle.wire.specs.Format.{proposal_bytes, vote_bytes}
 use Rattle.wire.specs.Read.{read}
 use Rattle.wire.specs.declared.body.Body.{Body}
 use Rattle.wire.specs.declared.message.Message.TheVariants as message
-use Rattle.wire.specs.declared.message.Proposal.{Proposal}
 use Rattle.wire.specs.declared.message.Vote.{Vote}
 use Rattle.wire.specs.declared.order.Order.{Order}
 use Rattle.rules.specs.declared.refusal.Refusal.{Refusal}
