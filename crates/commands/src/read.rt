@@ -5,7 +5,7 @@ ghost use Rattle.script.specs.Faults.{Refutes};
 ghost use Rattle.commands.specs.Commands.{HasSeals, NameArguments, MacArguments, ReadArguments, TryArguments, PitArguments, KeyArguments, OpenArguments, TickArguments, ProposeArguments, HearArguments, ShelfArguments, OnlyConsole, Reads};
 
 use crate::command::{Command, SealKind};
-use script::arguments::{byte, bytes, consoles, key, long, short};
+use script::arguments::{byte, bytes, consoles, key, long, short_up_to};
 use script::command::new_board;
 use script::fault::Fault;
 use script::orders::orders;
@@ -83,7 +83,7 @@ pub(crate) fn read_open<'a>(mut fields: Fields<'a>) -> Result<Command, Fault<'a>
     ensures { Reads (OpenArguments (fields_of fields.entry)) result }
 {
     let console = byte(&mut fields, 255)?;
-    let slots = short(&mut fields, 300)?;
+    let slots = short_up_to(&mut fields, 300)?;
     let board = new_board(&mut fields)?;
     fields.end()?;
     Ok(Command::Open {
@@ -107,7 +107,7 @@ pub(crate) fn read_propose<'a>(heap: Global, mut fields: Fields<'a>) -> Result<C
 {
     let console = byte(&mut fields, 255)?;
     let turn = byte(&mut fields, 255)?;
-    let space = short(&mut fields, 1024)?;
+    let space = short_up_to(&mut fields, 1024)?;
     let orders = orders(heap, fields)?;
     Ok(Command::Propose {
         console,
@@ -130,7 +130,7 @@ pub(crate) fn read_shelf<'a>(mut fields: Fields<'a>) -> Result<Command, Fault<'a
     ensures { Reads (ShelfArguments (fields_of fields.entry)) result }
 {
     let console = byte(&mut fields, 255)?;
-    let slots = short(&mut fields, 300)?;
+    let slots = short_up_to(&mut fields, 300)?;
     fields.end()?;
     Ok(Command::Shelf { console, slots })
 }

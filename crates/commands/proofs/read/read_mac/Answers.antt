@@ -8,5 +8,5 @@ returns c = taken _ _ c.in_ok-key.ensures (taken _ _ c.in_ok-bytes.ensures (c.in
 
 pub returns-in_err-bytes : goal.returns-in_err-bytes
 returns-in_err-bytes c =
-    refused _ _ _ _ c.from-residual-in_err-bytes.ensures.1
+    refused _ _ _ _ c.from_residual-in_err-bytes.ensures.1
     (λ memory said. not-later single_key _ _ c.in_ok-key.ensures (λ _. not_first (no_vector (c.in_err-bytes.ensures memory))) said.1)

@@ -5,7 +5,7 @@ use Rattle.commands.proofs.read.read_try.Goals as goal
 
 pub returns-in_err-orders : goal.returns-in_err-orders
 returns-in_err-orders c =
-    refused _ _ _ _ c.from-residual-in_err-orders.ensures.1
+    refused _ _ _ _ c.from_residual-in_err-orders.ensures.1
     (λ memory said. not-later single_board _ _ c.in_ok-board.ensures (λ _ on. c.in_err-orders.ensures memory (vec_items on.0, on.1)) said.1)
 
 pub returns : goal.returns
