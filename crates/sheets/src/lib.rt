@@ -1,3 +1,2 @@
-#![tactic(auto)]
-
 // Shift sheets, what is taken for granted of them, and the promise over them: see specs/.
+#![tactic(auto)]
