@@ -1,4 +1,6 @@
 // The promise over whole shifts, on one public call.
+#![tactic(auto)]
+
 ghost use Rattle.sheets.specs.Promise.{Promise};
 
 use parts::board::Board;
