@@ -15,7 +15,6 @@ use Rattle.wire.specs.declared.key.Key.{Key}
 use Rattle.wire.specs.declared.message.Message.TheVariants as message
 use Rattle.wire.specs.declared.message.Vote.{Vote}
 use Rattle.wire.specs.declared.order.Order.{Order}
-use Rattle.wire.specs.declared.statement.Statement.{Statement}
 use Rattle.wire_laws.proofs.Messages.{message_forth}
 use Rattle.rules.specs.declared.block.Block.{Block}
 use Rattle.rules.specs.Blocks.{On, block_key, held, is_held}
@@ -29,8 +28,8 @@ use Rattle.rules.specs.Step.{opens, vote, Outcome, Owed}
 use Rattle.rules.specs.Tick.{clocked, vote_for}
 use Rattle.rules.specs.Options.{absent, same_some}
 use Rattle.rules.specs.Shelves.{held_on, on_put, none_on, key_itself}
-use Rattle.sheets.specs.Sheet.{Pit, Line, Sheet, Spot, state_at, advance, first_opening, did, answer_in, sealed_in, shown_in}
-use Rattle.sheets.specs.Sound.{SoundSheet, TypedCall}
+use Rattle.sheets.specs.Sheet.{Pit, Line, Sheet, Spot, state_at, advance, first_opening, did, answer_in, shown_in}
+use Rattle.sheets.specs.Sound.{SoundSheet, Typed, TypedCall}
 use Rattle.safety.proofs.Agreement.{lawful}
 use Rattle.safety.proofs.Grounds.{ProposeStands, candidate_on}
 use Rattle.safety.proofs.Histories.{blocks, consoles, history, newest, sound_earlier}
@@ -104,24 +103,19 @@ pub record Fits (s : State) : Type 0 where
   pub tick : s.tick < 2 ^ 32
   pub ledger : Fit-ledger s.seat.n s.ledger
 
--- if something was sealed, the seal has sixteen bytes
-abbrev Sixteen : List ℕ → Option Statement → Type 0
-Sixteen seal sealed = (st : Statement) → sealed ≡ Some st → length seal ≡ 16
-
-step_fits : (table : Table) (l : Line) (s : State) → s.seat.n ≤ 16 → s.seat.own < s.seat.n → Fits s
-    → (call : Call) → Sixteen l.seal (step table l.seal s call).sealed → TypedCall call → Fits (step table l.seal s call).state
+step_fits : (table : Table) (l : Line) (s : State) → Typed l → s.seat.n ≤ 16 → s.seat.own < s.seat.n → Fits s
+    → (call : Call) → TypedCall call → Fits (step table l.seal s call).state
 unfolding vote_for propose_body count_vote
-step_fits table l s sixteen own f (opening slots) typed c = record { tick = omega arith; ledger = empty-fits s.seat.n slots }
-step_fits table l s sixteen own f (ticking t) typed c =
-    tick_ways l.seal s t (λ (o : Outcome). Sixteen l.seal o.sealed → Fits o.state) (λ r _ _. f) (λ u _. record { tick = c; ledger = f.ledger })
-    (λ u _. record { tick = c; ledger = f.ledger })
-    (λ b w seal. record {
+step_fits table l s typed sixteen own f (opening slots) c = record { tick = omega arith; ledger = empty-fits s.seat.n slots }
+step_fits table l s typed sixteen own f (ticking t) c =
+    tick_ways l.seal s t (λ (o : Outcome). Fits o.state) (λ r _. f) (λ u. record { tick = c; ledger = f.ledger })
+    (λ u. record { tick = c; ledger = f.ledger })
+    (λ b w. record {
       tick = c;
       ledger = settled-fits s.seat.n _ (entered-fits-in s.seat.n (block_key b) s.seat.own l.seal b s.ledger
-          (candidate_held (clocked s t) b w.choice) own sixteen (seal _ refl) f.ledger);
+          (candidate_held (clocked s t) b w.choice) own sixteen typed.sixteen f.ledger);
     })
-    typed
-step_fits table l s sixteen own f (proposing owed orders space) typed c =
+step_fits table l s typed sixteen own f (proposing owed orders space) c =
     propose_ways l.seal s owed orders space (λ (o : Outcome). Fits o.state) (λ r. f)
     (λ w. record {
       tick = f.tick;
@@ -129,8 +123,8 @@ step_fits table l s sixteen own f (proposing owed orders space) typed c =
           (cond_both (is_held (body_key (body_on_top s owed orders)) s.ledger.shelf) s.ledger _ (Fit-ledger s.seat.n)
           (λ _. f.ledger) (λ _. placed-fits s.seat.n _ s.ledger (nobody_fits s.seat.n) f.ledger));
     })
-step_fits table l s sixteen own f (passing owed) typed c = f
-step_fits table l s sixteen own f (hearing bytes) typed c =
+step_fits table l s typed sixteen own f (passing owed) c = f
+step_fits table l s typed sixteen own f (hearing bytes) c =
     hear_ways table s bytes (λ (o : Outcome). Fits o.state) (λ r. f) f
     (λ p w.
     let g : Fit-ledger s.seat.n (taken_up p s) = settled-fits s.seat.n _ (with-top-fits s.seat.n p.certificate _
@@ -151,8 +145,8 @@ fits_run pit i below =
     (λ l ls s e k h good.
     let q = seats pit i ls s k in
     let t = good.typed (newest l ls) in
-    step_fits (pit.table i) l s (omega (arith, q.0, good.the_pit.sixteen)) (omega (arith, q.0, q.1, below))
-    (h (sound_earlier pit (l ∷ []) ls good)) l.call (λ st z. t.sixteen st (ap sealed_in (done_open pit i l ls s e k) ∙ z)) t.call)
+    step_fits (pit.table i) l s t (omega (arith, q.0, good.the_pit.sixteen)) (omega (arith, q.0, q.1, below))
+    (h (sound_earlier pit (l ∷ []) ls good)) l.call t.call)
 
 -- ---- keys
 
@@ -176,36 +170,25 @@ pub record Casts (s : State) (seal : List ℕ) (x : Vote) : Type 0 where
   pub on : On b s.ledger.shelf
   pub at_view : b.body.view ≡ view_of t
   pub is : x ≡ vote_made b seal (clocked s t)
-  pub sixteen : length seal ≡ 16
 
-step_casts : (table : Table) (seal : List ℕ) (s : State) (call : Call) → TypedCall call → Sixteen seal (step table seal s call).sealed
-    → (x : Vote) → (step table seal s call).answer ≡ vote x → Casts s seal x
+step_casts : (table : Table) (seal : List ℕ) (s : State) (call : Call) → TypedCall call → (x : Vote) → (step table seal s call).answer ≡ vote x → Casts s seal x
 unfolding vote_for propose_body take_up count_vote
-step_casts table seal s (opening slots) c y x = other_kind _ _ refl
-step_casts table seal s (ticking t) c y x =
-    tick_ways seal s t (λ (o : Outcome). Sixteen seal o.sealed → o.answer ≡ vote x → Casts s seal x) (λ r _ _. other_kind _ _ refl)
-    (λ u _. other_kind _ _ refl) (λ u _. other_kind _ _ refl)
-    (λ b w z e.
+step_casts table seal s (opening slots) c x = other_kind _ _ refl
+step_casts table seal s (ticking t) c x =
+    tick_ways seal s t (λ (o : Outcome). o.answer ≡ vote x → Casts s seal x) (λ r _. other_kind _ _ refl) (λ u. other_kind _ _ refl) (λ u. other_kind _ _ refl)
+    (λ b w e.
     let o = candidate_on (clocked s t) b w.choice in
     let v : vote_made b seal (clocked s t) ≡ x = same_vote _ x e in
-    record { t = t; b = b; small = c; on = o.0; at_view = o.1; is = sym v; sixteen = z _ refl })
-    y
+    record { t = t; b = b; small = c; on = o.0; at_view = o.1; is = sym v })
   where
     same_vote : (y z : Vote) → vote y ≡ vote z → y ≡ z
     same_vote y z e = cc
-step_casts table seal s (proposing owed orders space) c y x =
+step_casts table seal s (proposing owed orders space) c x =
     propose_ways seal s owed orders space (λ (o : Outcome). o.answer ≡ vote x → Casts s seal x) (λ r. other_kind _ _ refl) (λ w. other_kind _ _ refl)
-step_casts table seal s (passing owed) c y x = other_kind _ _ refl
-step_casts table seal s (hearing bytes) c _ x =
+step_casts table seal s (passing owed) c x = other_kind _ _ refl
+step_casts table seal s (hearing bytes) c x =
     hear_ways table s bytes (λ (o : Outcome). o.answer ≡ vote x → Casts s seal x) (λ r. other_kind _ _ refl) (other_kind _ _ refl)
     (λ p w. other_kind _ _ refl) (λ y b w. other_kind _ _ refl)
-
--- a call that shows a body that it proposed sealed something
-proposal_sealed : (seal : List ℕ) (s : State) (owed : Owed) (orders : List Order) (space : ℕ) (body : Body)
-    → (propose seal s owed orders space).shown ≡ Some body → (st : Statement) × ((propose seal s owed orders space).sealed ≡ Some st)
-unfolding propose_body
-proposal_sealed seal s owed orders space body =
-    propose_ways seal s owed orders space (λ (o : Outcome). o.shown ≡ Some body → (st : Statement) × (o.sealed ≡ Some st)) (λ r e. absurd (absent _ e)) (λ w e. (_, refl))
 
 module _ (pit : Pit) (sheet : Sheet) (good : SoundSheet pit sheet) where
   before : (p : Spot sheet) → SoundSheet pit p.earlier
@@ -222,7 +205,7 @@ module _ (pit : Pit) (sheet : Sheet) (good : SoundSheet pit sheet) where
         record {
           block = record { view = omega (arith, w.at_view, w.small); name = ap (λ (y : List ℕ). length y) g.named ∙ named_fits w.b.body };
           voter = omega (arith, q.1, sound.0, good.the_pit.sixteen);
-          seal = w.sixteen;
+          seal = (good.typed p).sixteen;
         },
         and_from (leb 1 w.b.body.view) (ltb s.seat.own pit.n) (le-leb _ _ (omega (arith, g.above))) (lt-ltb _ _ (omega (arith, q.1, sound.0))),
       )
@@ -242,16 +225,15 @@ module _ (pit : Pit) (sheet : Sheet) (good : SoundSheet pit sheet) where
           → WellFormed pit.n (message.Vote x)
       at None k h = absurd (first p.line.call h)
       at (Some s) k h =
-          cast_fits p s k x (step_casts (pit.table p.line.console) p.line.seal s p.line.call (good.typed p).call
-          (λ st z. (good.typed p).sixteen st (ap (λ (q : Option State). sealed_in (advance pit p.line q)) k ∙ z)) x (same_some _ (vote x) h))
+          cast_fits p s k x (step_casts (pit.table p.line.console) p.line.seal s p.line.call (good.typed p).call x (same_some _ (vote x) h))
 
   -- ---- proposals
 
   proposal-fits-out : (p : Spot sheet) (s : State) (owed : Owed) (orders : List Order) (space : ℕ) → state_at pit p.line.console p.earlier ≡ Some s
-      → p.line.call ≡ proposing owed orders space → ProposeStands s owed orders space → length p.line.seal ≡ 16
+      → p.line.call ≡ proposing owed orders space → ProposeStands s owed orders space
       → WellFormed pit.n (message.Proposal (record { body = body_on_top s owed orders; certificate = s.ledger.top; seal = p.line.seal }))
   unfolding proposal_stands
-  proposal-fits-out p s owed orders space h call w seal =
+  proposal-fits-out p s owed orders space h call w =
       let i = p.line.console in
       let sound = good.lines p in
       let typed : TypedCall (proposing owed orders space) = subst TypedCall call (good.typed p).call in
@@ -277,7 +259,7 @@ module _ (pit : Pit) (sheet : Sheet) (good : SoundSheet pit sheet) where
             orders = subst (AllByRecursion OrderFits) (sym same) typed.1;
           };
           certificate = record { block = key; set = set; sixteen = f.top.signers.sixteen; seals = f.top.signers.seals; absent = f.top.signers.absent };
-          seal = seal;
+          seal = (good.typed p).sixteen;
         },
         and_from _ _ (and_from _ _ (ap all_well_formed same ∙ o.1) (lt-ltb _ _ w.above_top))
             (and_from _ _ (and_from (ltb top.signers.set (2 ^ pit.n)) _ (lt-ltb _ _ f.top.signers.below) (origin-or top f.top.zero-view))
@@ -302,10 +284,9 @@ module _ (pit : Pit) (sheet : Sheet) (good : SoundSheet pit sheet) where
       let d = done_open pit i p.line p.earlier s refl h in
       let e : stepped pit i p.line s ≡ propose p.line.seal s owed orders space = ap (step (pit.table i) p.line.seal s) call in
       let f = shows_proposal p.line.seal s owed orders space body (ap (λ (o : Outcome). o.shown) (sym e) ∙ sym (ap shown_in d) ∙ shows) in
-      let sealed = proposal_sealed p.line.seal s owed orders space body (ap (λ (o : Outcome). o.shown) (sym e) ∙ sym (ap shown_in d) ∙ shows) in
       message_forth pit.n (message.Proposal (record { body = body; certificate = s.ledger.top; seal = p.line.seal }))
       (subst (λ (b : Body). WellFormed pit.n (message.Proposal (record { body = b; certificate = s.ledger.top; seal = p.line.seal }))) f.1
-      (proposal-fits-out p s owed orders space h call f.0 ((good.typed p).sixteen _ (ap sealed_in d ∙ ap (λ (o : Outcome). o.sealed) e ∙ sealed.1))))
+      (proposal-fits-out p s owed orders space h call f.0))
 
   pub readable : Readable pit sheet
   readable = record { votes = read-votes; proposals = read-proposals }

@@ -145,7 +145,7 @@ pub sound_earlier : (pit : Pit) (more ls : Sheet) → SoundSheet pit (more ++ ls
 sound_earlier pit more ls s = record {
   the_pit = s.the_pit;
   lines = λ p. s.lines (spot_later more p);
-  typed = λ p. let t = s.typed (spot_later more p) in record { sixteen = t.sixteen; call = t.call };
+  typed = λ p. s.typed (spot_later more p);
   seals = λ p. s.seals (spot_later more p);
   sealing = λ p. s.sealing (spot_later more p);
   turns = record { came = λ p. s.turns.came (spot_later more p); once = λ p. s.turns.once (spot_later more p) };

@@ -10,7 +10,7 @@ use Rattle.wire.specs.declared.body.Body.{Body}
 use Rattle.wire.specs.declared.statement.Statement.{Statement}
 use Rattle.rules.specs.Call.{Call, opening, ticking, proposing, passing, hearing}
 use Rattle.rules.specs.Step.{turn, Owed, Vouched}
-use Rattle.sheets.specs.Sheet.{Pit, Sound, Sheet, Spot, did, answer_in, shown_in, sealed_in, relied_in}
+use Rattle.sheets.specs.Sheet.{Pit, Sound, Line, Sheet, Spot, did, answer_in, shown_in, sealed_in, relied_in}
 
 -- A pit has 4 to 16 consoles, and at most (n − 1) ÷ 3 of them are not sound. With more, two quorums need not share a
 -- sound console, and no method could keep chains together.
@@ -28,14 +28,15 @@ TypedCall (proposing owed orders space) = (owed.view < 2 ^ 32) × AllByRecursion
 TypedCall (passing owed) = Unit {0}
 TypedCall (hearing bytes) = Octets bytes
 
--- A line holds what the calls' types can hold: ticks and views of 32 bits, numbers of 16 in orders, bytes in messages; and a
--- call that sealed something gave a seal of 16 bytes.
-pub record Typed (pit : Pit) {sheet : Sheet} (p : Spot sheet) : Type 0 where
-  pub sixteen : (st : Statement) → sealed_in (did pit p) ≡ Some st → length p.line.seal ≡ 16
-  pub call : TypedCall p.line.call
+-- A line holds what the calls' types can hold: a seal of 16 bytes, ticks and views of 32 bits, numbers of 16 in
+-- orders, bytes in messages.
+pub record Typed (l : Line) : Type 0 where
+  pub sixteen : length l.seal ≡ 16
+  pub octets : Octets l.seal
+  pub call : TypedCall l.call
 
-abbrev pub TypedLines : Pit → Sheet → Type 0
-TypedLines pit sheet = (p : Spot sheet) → Typed pit p
+abbrev pub TypedLines : Sheet → Type 0
+TypedLines sheet = (p : Spot sheet) → Typed p.line
 
 -- Only sound consoles have lines: a sheet lists what the product did, and says nothing of what faulty consoles do.
 abbrev pub SoundLines : Pit → Sheet → Type 0
@@ -86,7 +87,7 @@ NoCollision pit sheet =
 pub record SoundSheet (pit : Pit) (sheet : Sheet) : Type 0 where
   pub the_pit : SoundPit pit
   pub lines : SoundLines pit sheet
-  pub typed : TypedLines pit sheet
+  pub typed : TypedLines sheet
   pub seals : NoForgery pit sheet
   pub sealing : GoodSeals pit sheet
   pub turns : TurnsOnce pit sheet
