@@ -1,4 +1,6 @@
 // A concrete shift that meets all that the promise over shifts takes for granted: the promise is not an empty one.
+#![tactic(auto)]
+
 ghost use Rattle.witness.specs.Facts.{SoundShift, TimelyShift};
 
 /// A sheet is sound on which a faulty leader shows two consoles different blocks, and one sound console is ahead of another.
