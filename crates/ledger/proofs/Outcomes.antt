@@ -1,11 +1,10 @@
 -- What settling comes to, by the block that is chosen.
-use Rattle.std.proofs.Common.{◌≡◌, ℕ, ◌+◌, List, [], ◌∷◌, length, Some, None, sym, refl, ap, ◌∙◌}
+use Rattle.std.proofs.Common.{◌≡◌, ℕ, ◌+◌, List, [], length, Some, None, sym, ap, ◌∙◌}
 use Rattle.parts.specs.Fed.{fed}
 use Rattle.rules.specs.Blocks.{Slot, block_key, swept}
 use Rattle.rules.specs.Settle.{Settled, best, ready, line, settle, settle_at}
 use Rattle.rules.specs.State.{Ledger}
 use Rattle.rules.specs.declared.block.Block.{Block}
-use Rattle.wire.specs.declared.body.Body.{Body}
 use Rattle.wire.specs.declared.key.Key.{Key}
 use Rattle.wire.specs.declared.order.Order.{Order}
 use Rattle.sheets.specs.Sheet.{all_orders}

@@ -1,5 +1,5 @@
 -- What settling does on its way.
-use Rattle.std.specs.Prelude.{◌≡◌, ℕ, ◌+◌, Bool, true, false, cond, ◌&&◌, List, Some, None, ◌==◌, nat_lt}
+use Rattle.std.specs.Prelude.{◌≡◌, ℕ, ◌+◌, Bool, false, cond, ◌&&◌, List, Some, None, ◌==◌, nat_lt}
 use Rattle.rules.specs.Blocks.{Slot, kept_above}
 use Rattle.rules.specs.Settle.{certified}
 use Rattle.wire.specs.declared.key.Key.{Key}

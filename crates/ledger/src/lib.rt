@@ -1,4 +1,5 @@
 // What a console knows of blocks: the block shelf that it is lent, its top certificate and its head.
+#![tactic(auto)]
 
 pub mod chain;
 pub mod progress;

@@ -1,6 +1,6 @@
-use Rattle.std.proofs.Common.{◌≡◌, ℕ, ◌+◌, sym, ap, ◌∙◌, subst, arith, rules}
+use Rattle.std.proofs.Common.{ℕ, ◌+◌, sym, ap, ◌∙◌, arith, rules}
 use Rattle.parts.specs.Fed.{fed}
-use Rattle.ledger.proofs.Lines.{Hands, parent_below, line_here, line_end, hands_on, hands_first}
+use Rattle.ledger.proofs.Lines.{parent_below, line_here, line_end, hands_on, hands_first}
 use Rattle.ledger.proofs.chain.+hand_over.Goals as goal
 use Rattle.ledger.proofs.chain.+hand_over.Goals.{then-not-same+in-Some, then-not-same+in_default, else-not-same}
 

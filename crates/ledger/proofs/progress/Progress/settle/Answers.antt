@@ -27,7 +27,7 @@ pub invariant_of-self : goal.invariant_of-self
 invariant_of-self g c =
     let a = best_above _ _ _ c.in-Some.block (sym c.in-Some.ensures) in
     let k = ap (λ (x : Key). x.view) c.key_of-self.ensures in
-    (omega arith, tt)
+    record { counted = omega arith }
 
 pub returns : goal.returns
 returns g c =
