@@ -9,7 +9,7 @@ use Rattle.rules.specs.Step.{Answer, refused, opens, turn, vote, nothing, propos
 use Rattle.sheets.specs.Sheet.{Line}
 use Rattle.wire.specs.Bytes.{Octets}
 use Rattle.wire.specs.Canon.{OrderFits}
-use Rattle.sheets.specs.Sound.{Spends, TypedCall}
+use Rattle.sheets.specs.Sound.{Spends, Typed, TypedCall}
 use Rattle.witness.proofs.Same.{owed_is, same_bytes, same_owed, same_owed_refl}
 use Rattle.witness.proofs.Tests.{all_is, all_of, both, is_some}
 
@@ -159,9 +159,14 @@ typed_call_is (passing owed) t = tt
 typed_call_is (hearing bytes) t = octets_are bytes t
 
 abbrev pub typed_line : Line → Bool
-typed_line l = eqb (length l.seal) 16 && typed_call l.call
+typed_line l = eqb (length l.seal) 16 && (octets l.seal && typed_call l.call)
 
-pub typed_line_is : (l : Line) → T (typed_line l) → (length l.seal ≡ 16) × TypedCall l.call
+pub typed_line_is : (l : Line) → T (typed_line l) → Typed l
 typed_line_is l t =
-    let parts = both (eqb (length l.seal) 16) (typed_call l.call) t in
-    (eqb→eq (length l.seal) 16 parts.0, typed_call_is l.call parts.1)
+    let parts = both (eqb (length l.seal) 16) (octets l.seal && typed_call l.call) t in
+    let more = both (octets l.seal) (typed_call l.call) parts.1 in
+    record {
+      sixteen = eqb→eq (length l.seal) 16 parts.0;
+      octets = octets_are l.seal more.0;
+      call = typed_call_is l.call more.1;
+    }

@@ -63,10 +63,8 @@ module _ (pit : Pit) where
       let parts = both (ltb i pit.n) (pit.sound i) (at_every pit sound-line t p) in
       (ltb→lt i pit.n parts.0, parts.1)
 
-  lines-typed : {sheet : Sheet} → T (every typed (run pit sheet)) → TypedLines pit sheet
-  lines-typed t p =
-      let is = typed_line_is p.line (at_every pit typed t p) in
-      record { sixteen = λ _ _. is.0; call = is.1 }
+  lines-typed : {sheet : Sheet} → T (every typed (run pit sheet)) → TypedLines sheet
+  lines-typed t p = typed_line_is p.line (at_every pit typed t p)
 
   sealed-is : (sheet : Sheet) (j : ℕ) (st : Statement) → T (some (sealed-it j st) (run pit sheet)) → Sealed pit sheet j st
   sealed-is sheet j st t =
