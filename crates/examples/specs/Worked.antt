@@ -57,11 +57,11 @@ held_block view parent name voters =
     }
 
 abbrev pub shelf_of : ℕ → ℕ → Ledger
-shelf_of view child-view =
+shelf_of view child_view =
     record {
       shelf =
           Some (held_block view origin 1 0)
-          ∷ (Some (held_block child-view (record { view = view; name = replicate 32 1 }) 2 0b0111) ∷ replicate 6 None);
+          ∷ (Some (held_block child_view (record { view = view; name = replicate 32 1 }) 2 0b0111) ∷ replicate 6 None);
       top = (empty_ledger 8).top;
       head = origin;
       count = 0;
