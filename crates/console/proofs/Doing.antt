@@ -1,5 +1,5 @@
 -- Calls held to an outcome of the rules.
-use Rattle.std.proofs.Common.{◌≡◌, ℕ, ◌/◌, ◌<◌, Bool, true, false, cond, eqb, ltb, List, [], ◌∷◌, ◌++◌, length, drop, Option, sym, refl, ap, ◌∙◌, subst}
+use Rattle.std.proofs.Common.{◌≡◌, ℕ, ◌/◌, ◌<◌, Bool, true, false, cond, eqb, ltb, List, [], ◌++◌, length, drop, Option, sym, refl, ap, ◌∙◌, subst}
 use Rattle.std.proofs.lemmas.Bool.{cond-true, lt-ltb}
 use Rattle.ledger.proofs.Lines.{fed_none}
 use Rattle.ledger.proofs.Outcomes.{Settles}
@@ -11,7 +11,7 @@ use Rattle.rules.specs.Blocks.{Slot, block_key, is_held, put}
 use Rattle.rules.specs.Hear.{votes_for, proposes, take_up, count_vote}
 use Rattle.rules.specs.Propose.{placed_if_new, propose_body}
 use Rattle.rules.specs.Settle.{enter, fresh, placed, settle, with_top}
-use Rattle.rules.specs.State.{State, Ledger, or_candidate, saved, with_candidate, with_ledger}
+use Rattle.rules.specs.State.{State, Ledger, or_candidate, with_candidate, with_ledger}
 use Rattle.rules.specs.Step.{Answer, new, proposal, vote, Outcome, only}
 use Rattle.rules.specs.Tick.{marks_voted, vote_for}
 use Rattle.rules.specs.declared.block.Block.{Block}

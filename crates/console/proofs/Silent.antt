@@ -3,7 +3,7 @@ use Rattle.std.proofs.Common.{◌≡◌, ℕ, List, [], ◌++◌, length, drop, 
 use Rattle.parts.specs.Meaning.{Keys}
 use Rattle.rules.proofs.Ways.{turn_ways, vote_ways, tick_ways, hear_proposal_ways, hear_vote_ways, hear_ways}
 use Rattle.rules.specs.Call.{Call, step}
-use Rattle.rules.specs.Hear.{take_up, hear_proposal, count_vote, hear_vote, hear}
+use Rattle.rules.specs.Hear.{take_up, count_vote, hear}
 use Rattle.rules.specs.State.{State, Table}
 use Rattle.rules.specs.Step.{Outcome}
 use Rattle.rules.specs.Tick.{clocked, take_turn, vote_for, cast_vote, tick}

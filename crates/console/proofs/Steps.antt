@@ -1,12 +1,12 @@
 -- Which way a call goes, by what is known of the state.
-use Rattle.std.proofs.Common.{◌≡◌, ℕ, ◌<◌, ◌≤◌, Bool, true, false, cond, not, ltb, leb, List, Some, None, Ok, Err, Option, Result, sym, refl, ap, ◌∙◌}
+use Rattle.std.proofs.Common.{◌≡◌, ℕ, ◌<◌, ◌≤◌, Bool, true, false, cond, not, ltb, leb, List, Some, None, Ok, Err, Option, Result, sym, ap, ◌∙◌}
 use Rattle.std.proofs.lemmas.Bool.{cond-true, cond-false, le-leb, lt-leb, lt-ltb, le-ltb, not_from_true, not_from_false}
 use Rattle.rules.specs.Blocks.{Slot, is_held, held}
 use Rattle.rules.specs.Hear.{votes_for, proposes, certificate_stands, proposal_ground, take_up, hear_proposal, count_vote, hear_vote, unread, hear_message, hear}
 use Rattle.rules.specs.Pit.{for_proposing, leader}
 use Rattle.rules.specs.Propose.{body_on_top, turn_stands, orders_stand, fits_shelf, propose_ground, propose_body, propose}
 use Rattle.rules.specs.State.{State, Table, shelf_fits, saved}
-use Rattle.rules.specs.Step.{refused, turn, nothing, known, Owed, Outcome, only}
+use Rattle.rules.specs.Step.{refused, turn, nothing, known, Owed, only}
 use Rattle.rules.specs.Tick.{tick_ground, clocked, candidate_block, may_vote, marks_proposed, may_take_turn, take_turn, vote_for, cast_vote, tick}
 use Rattle.rules.specs.declared.block.Block.{Block}
 use Rattle.rules.specs.declared.refusal.Refusal.{Refusal}

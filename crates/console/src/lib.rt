@@ -1,4 +1,5 @@
 // One console of a pit: from heard messages and clock ticks to votes and a chain of orders for its board.
+#![tactic(auto)]
 
 pub mod answers;
 mod checks;

@@ -20,21 +20,31 @@ use parts::seals::Seals;
 use parts::store::Store;
 use rules::block::Block;
 
-impl<S: Seals + Drop, T: Store, B: Board + Drop> Console<S, T, B> {
-    // Opens the console again, over an emptied shelf and its own store as it was left, with these seals and this board.
-    pub fn reopen(&mut self, shelf: &mut [Option<Block>], seals: S, board: B)
-        ensures did { Did B.Board.rule (S.Seals.keys seals) (seen T.Store.kept self.old shelf.old) (opening (length shelf.old)) (B.Board.world board) [] (stands T.Store.kept B.Board.world self.new shelf.new opens 0 []) }
-        ensures seals { self.new.seals ≡ seals }
+impl<S: Seals, T: Store, B: Board> Console<S, T, B> {
+    // Opens the console again, over an emptied shelf and its own store as it was left.
+    pub fn reopen(&mut self, shelf: &mut [Option<Block>])
+        ensures did { Did B.Board.rule (S.Seals.keys self.old.seals) (seen T.Store.kept self.old shelf.old) (opening (length shelf.old)) (B.Board.world self.old.board) [] (stands T.Store.kept B.Board.world self.new shelf.new opens 0 []) }
+        ensures same { S.Seals.keys self.new.seals ≡ S.Seals.keys self.old.seals }
     {
         clear_all(shelf);
-        self.seals = seals;
-        self.board = board;
         self.marks = self.store.load();
         self.slots = shelf.len();
         self.tick = 0;
         self.view = 0;
         self.candidate = None;
         self.progress = Progress::start();
+    }
+}
+
+impl<S: Seals + Drop, T: Store, B: Board + Drop> Console<S, T, B> {
+    // Opens the console again, over an emptied shelf and its own store as it was left, with these seals and this board.
+    pub fn reopen_with(&mut self, shelf: &mut [Option<Block>], seals: S, board: B)
+        ensures did { Did B.Board.rule (S.Seals.keys seals) (seen T.Store.kept self.old shelf.old) (opening (length shelf.old)) (B.Board.world board) [] (stands T.Store.kept B.Board.world self.new shelf.new opens 0 []) }
+        ensures seals { self.new.seals ≡ seals }
+    {
+        self.reopen(shelf);
+        self.seals = seals;
+        self.board = board;
     }
 
     // Makes the call that the request says, over the console's own shelf: one line of a shift sheet. Of whole sheets holds what
@@ -51,8 +61,12 @@ impl<S: Seals + Drop, T: Store, B: Board + Drop> Console<S, T, B> {
     {
         promise::<B>();
         match request {
-            Request::Open(seals, board) => {
-                self.reopen(shelf, seals, board);
+            Request::Open => {
+                self.reopen(shelf);
+                Reply::Opened
+            }
+            Request::OpenWith(seals, board) => {
+                self.reopen_with(shelf, seals, board);
                 Reply::Opened
             }
             Request::Tick(t) => Reply::Ticked(self.tick(shelf, t)),

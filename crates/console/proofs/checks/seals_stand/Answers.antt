@@ -1,4 +1,4 @@
-use Rattle.std.proofs.Common.{◌≡◌, ℕ, sym, ap, ◌∙◌, arith}
+use Rattle.std.proofs.Common.{◌≡◌, sym, ap, ◌∙◌, arith}
 use Rattle.rules.specs.Hear.{seals_accepted}
 use Rattle.console.proofs.Certificates.{seals_none, seals_more, seals_fail}
 use Rattle.console.proofs.checks.seals_stand.Goals as goal

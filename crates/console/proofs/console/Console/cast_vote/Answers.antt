@@ -1,4 +1,4 @@
-use Rattle.std.proofs.Common.{[], sym, refl, ap, ◌∙◌}
+use Rattle.std.proofs.Common.{[], sym, refl}
 use Rattle.console.proofs.Doing.{does_as, does_only}
 use Rattle.console.proofs.Steps.{cast_none, cast_not, cast_so}
 use Rattle.console.proofs.console.Console.cast_vote.Goals as goal

@@ -10,7 +10,17 @@ returns-in-Open g c =
     let d = c.reopen.ensures.did in
     record {
       advances = entered_as _ _ _ _ _ _ _ _ _ _ _ _ c.in-Open.is (did_advances _ _ s (opening (length c.args.shelf.now)) _ _ _ (d.0, does_beside _ _ _ _ _ _ _ refl d.1));
-      keys = keys_as _ _ _ _ _ c.in-Open.is (ap g.S.Seals.keys c.reopen.ensures.seals);
+      keys = keys_as _ _ _ _ _ c.in-Open.is c.reopen.ensures.same;
+      promise = c.promise.ensures;
+    }
+
+pub returns-in-OpenWith : goal.returns-in-OpenWith
+returns-in-OpenWith g c =
+    let s = seen g.T.Store.kept c.args.self.now c.args.shelf.now in
+    let d = c.reopen_with.ensures.did in
+    record {
+      advances = entered_as _ _ _ _ _ _ _ _ _ _ _ _ c.in-OpenWith.is (did_advances _ _ s (opening (length c.args.shelf.now)) _ _ _ (d.0, does_beside _ _ _ _ _ _ _ refl d.1));
+      keys = keys_as _ _ _ _ _ c.in-OpenWith.is (ap g.S.Seals.keys c.reopen_with.ensures.seals);
       promise = c.promise.ensures;
     }
 

@@ -1,4 +1,4 @@
-use Rattle.std.proofs.Common.{[], sym, refl, ap, ◌∙◌, arith}
+use Rattle.std.proofs.Common.{[], sym, refl, ap, arith}
 use Rattle.rules.specs.Step.{refused}
 use Rattle.console.proofs.Doing.{does_as, does_only}
 use Rattle.console.proofs.Heard.{read_as, voter_below}
