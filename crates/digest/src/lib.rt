@@ -1,4 +1,6 @@
 // SHA-256 of FIPS 180-4 and HMAC-SHA-256 of RFC 2104, each proved to give what its standard defines.
+#![tactic(auto)]
+
 mod examples;
 mod mac;
 mod message;

@@ -1,10 +1,10 @@
 -- The laws of search and placement.
-use Rattle.std.proofs.Common.{◌≡◌, ℕ, ◌<◌, Bool, true, false, List, length, get_or, Some, None, Decides, Option, sym, refl, ap, ◌∙◌, ⊎_elim, arith}
+use Rattle.std.proofs.Common.{◌≡◌, ℕ, Bool, true, false, List, Some, None, Decides, Option, refl, ap, ⊎_elim, arith}
 use Rattle.std.proofs.lemmas.List.{length-set, get_or-set_same, get_or-set_other}
 use Rattle.std.proofs.lemmas.Bool.{cases_Bool, both_ways}
 use Rattle.shelf.specs.Slots.{lowest, has, blank}
 use Rattle.shelf.specs.Laws.{Iff, First, Nowhere, Finds, FindsVacant, Puts}
-use Rattle.shelf.proofs.Search.{IsLowest, lowest_found, found_lowest, lowest_missing, missing_lowest}
+use Rattle.shelf.proofs.Search.{lowest_found, found_lowest, lowest_missing, missing_lowest}
 
 fails : (b : Bool) (P : Type 0) → Decides b P → (P → ⊥) → b ≡ false
 fails b P d h = ⊎_elim (λ e. absurd (h (d.0 e))) (λ e. e) (cases_Bool b)

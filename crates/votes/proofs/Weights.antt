@@ -1,5 +1,5 @@
 -- The quorum law, by weights; counting is the case of weights of 1.
-use Rattle.std.proofs.Common.{◌≡◌, ℕ, zero, suc, ◌+◌, ◌/◌, ◌%◌, ◌^◌, ◌<◌, ◌≤◌, Bool, true, false, cond, not, T, eqb, leb, ◌⊎◌, sym, refl, ap, ◌∙◌, subst, ap₂, inl, inr, mod-lt, mod-eq_of_lt, add_comm, one-add, arith, le→leb, eqb→eq, leb→le, pow_pos}
+use Rattle.std.proofs.Common.{◌≡◌, ℕ, zero, suc, ◌+◌, ◌/◌, ◌%◌, ◌^◌, ◌<◌, ◌≤◌, Bool, true, false, cond, not, T, eqb, ◌⊎◌, sym, refl, ap, ◌∙◌, subst, ap₂, inl, inr, mod-lt, mod-eq_of_lt, add_comm, one-add, arith, le→leb, eqb→eq, leb→le, pow_pos}
 use native.Mathlib.Nat.{mod-one}
 use lib.Count.{ones, ones_cat}
 use lib.Pow.{mod-pow-add}

@@ -1,5 +1,7 @@
 // Votes, locks and quorums: why the chains of sound consoles never part.
 // Nothing here knows of ticks, leaders, seals, clocks or boards: whoever meets the premises of `Lawful` has the conclusions.
+#![tactic(auto)]
+
 ghost use Rattle.votes.specs.Quorum.{Counted, Counting, QuorumsShare, SoundSuffice};
 ghost use Rattle.votes.specs.Small.{Met, blocks as sample};
 ghost use Rattle.votes.specs.Votes.{Agreement, Ancestry, Blocks, Lasting};

@@ -1,14 +1,13 @@
 -- A body and its bytes determine one another.
-use Rattle.std.proofs.Common.{◌≡◌, ℕ, zero, suc, ◌+◌, ◌-◌, ◌*◌, ◌^◌, ◌<◌, ◌≤◌, Bool, true, false, cond, ◌&&◌, eqb, ltb, leb, List, [], ◌∷◌, ◌++◌, length, take, drop, codes, sym, refl, ap, ◌∙◌, subst, add_assoc, arith, eqb-true}
+use Rattle.std.proofs.Common.{◌≡◌, ℕ, zero, suc, ◌+◌, ◌*◌, ◌<◌, ◌≤◌, true, ◌&&◌, eqb, List, [], ◌∷◌, ◌++◌, length, take, drop, codes, sym, refl, ap, ◌∙◌, subst, add_assoc, arith, eqb-true}
 use Rattle.std.proofs.ByRecursion.{All-take, All-drop}
 use Rattle.std.proofs.lemmas.Slice.Eq.{bytes_eq-Decides}
 use Rattle.std.proofs.lemmas.List.{append-nil, append_assoc, nil_from_length, take-append-drop, take_at, drop_at, drop-drop, drop_all, length-take, length-drop}
 use Rattle.std.proofs.lemmas.Bool.{cond_both, and_parts}
-use Rattle.std.proofs.lemmas.Bool.Decides.{nat_tests}
 use Rattle.std.specs.List.{flat_map, AllByRecursion}
 use Rattle.wire.specs.Bytes.{be, num, field, number, Octets}
-use Rattle.wire.specs.Canon.{OrderFits, KeyFits, BodyFits}
-use Rattle.wire.specs.Format.{order_bytes, key_bytes, body_bytes, blank, pack, orders_of, well_formed}
+use Rattle.wire.specs.Canon.{OrderFits, BodyFits}
+use Rattle.wire.specs.Format.{order_bytes, key_bytes, body_bytes, pack, orders_of, well_formed}
 use Rattle.wire.specs.Read.{marked, order_in, orders_in, body_in, key_at, all_well_formed, body_length}
 use Rattle.wire.specs.declared.body.Body.{Body}
 use Rattle.wire.specs.declared.order.Order.{Order}

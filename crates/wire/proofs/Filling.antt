@@ -1,5 +1,5 @@
 -- A list filled from its start, over spare places.
-use Rattle.std.proofs.Common.{◌≡◌, ℕ, zero, suc, ◌+◌, ◌-◌, ◌<◌, ◌≤◌, List, [], ◌∷◌, ◌++◌, length, set, replicate, sym, refl, ap, ◌∙◌, add-sub_of_le, arith}
+use Rattle.std.proofs.Common.{◌≡◌, ℕ, suc, ◌+◌, ◌-◌, ◌<◌, List, [], ◌∷◌, ◌++◌, length, set, replicate, sym, ◌∙◌, arith}
 use Rattle.std.proofs.lemmas.List.{append_assoc, set_at}
 
 module _ {X : Type 0} (front : List X) (spare : X) (n i : ℕ) (h : length front ≡ i) (room : i < n) where

@@ -1,5 +1,5 @@
 -- The lengths and the parts of a proposal.
-use Rattle.std.proofs.Common.{◌≡◌, ℕ, zero, suc, ◌+◌, ◌-◌, ◌*◌, ◌<◌, ◌≤◌, Bool, true, false, ◌&&◌, eqb, ltb, leb, List, [], ◌∷◌, ◌++◌, length, take, drop, Some, None, Ok, Err, codes, sym, refl, ap, ◌∙◌, subst, add-sub_of_le, arith}
+use Rattle.std.proofs.Common.{◌≡◌, ℕ, suc, ◌+◌, ◌-◌, ◌*◌, ◌<◌, ◌≤◌, true, false, ◌&&◌, eqb, ltb, List, [], ◌∷◌, length, take, drop, Some, Ok, Err, codes, sym, refl, ap, ◌∙◌, subst, arith}
 use lib.Count.{ones}
 use Rattle.std.proofs.lemmas.List.{take_all, take_rest, take-take, drop-take, length-drop, length-take}
 use Rattle.std.proofs.lemmas.Bool.Decides.{nat_tests}
@@ -12,7 +12,6 @@ use Rattle.wire.specs.Bytes.{field, num, number, Octets}
 use Rattle.wire.specs.Parts.{Lengths, Opens}
 use Rattle.wire.specs.Read.{proposal_fits, body_length, past_body, certificate_length, body_part, certificate_part, seal_part, body_in, certificate_in, proposal_in, marked, inner_marks, all_well_formed, body_stands, certificate_stands, proposal_stands, read_proposal, key_at, vote_in, vote_stands, read_vote, read}
 use Rattle.wire.specs.declared.message.Vote.{Vote}
-use Rattle.wire.specs.declared.message.Message.{Message}
 use Rattle.wire.specs.declared.message.Message.TheVariants as message
 use Rattle.wire.specs.declared.message.Proposal.{Proposal}
 use Rattle.wire.specs.declared.unreadable.Unreadable.TheVariants.{Form, Mark}

@@ -1,8 +1,8 @@
 -- Signers by their bits.
-use Rattle.std.proofs.Common.{◌≡◌, ℕ, zero, suc, ◌+◌, ◌-◌, ◌*◌, ◌/◌, ◌%◌, ◌^◌, ◌<◌, ◌≤◌, Bool, true, false, cond, eqb, ltb, List, [], ◌∷◌, ◌++◌, map, length, get_or, set as set-at-place, replicate, sym, refl, ap, ◌∙◌, subst, le_refl, add-zero, add-suc, mod-lt, mod-eq_of_lt, add-sub_of_le, mul-zero, add-one, one-add, arith, lit<, pow_pos, eqb-true}
+use Rattle.std.proofs.Common.{◌≡◌, ℕ, zero, suc, ◌+◌, ◌-◌, ◌*◌, ◌/◌, ◌%◌, ◌^◌, ◌<◌, ◌≤◌, true, false, eqb, ltb, List, [], ◌∷◌, ◌++◌, map, length, get_or, set as set-at-place, replicate, sym, refl, ap, ◌∙◌, subst, le_refl, add-zero, add-suc, mod-lt, mod-eq_of_lt, add-sub_of_le, mul-zero, add-one, one-add, arith, lit<, pow_pos, eqb-true}
 use native.Mathlib.Nat.{div-eq_of_lt, mod-add-div, mod-one}
 use borrow.Author.Tests.{eqb-false}
-use lib.Count.{ones, ones_in, ones_cat, ones_step}
+use lib.Count.{ones, ones_in, ones_cat}
 use Rattle.std.proofs.lemmas.List.FromFn.{map-range_with_len_more, length-map-range_with_len}
 use Rattle.std.specs.List.{range_with_len}
 use Rattle.wire.specs.Bytes.{field}

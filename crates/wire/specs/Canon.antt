@@ -1,5 +1,5 @@
 -- The values that a message may hold: what each field of the bytes has room for.
-use Rattle.std.specs.Prelude.{◌≡◌, ℕ, ◌^◌, ◌<◌, ◌≤◌, true, false, List, [], length, slice_index_or}
+use Rattle.std.specs.Prelude.{◌≡◌, ℕ, ◌^◌, ◌<◌, ◌≤◌, true, false, [], length, slice_index_or}
 use Rattle.std.specs.List.{AllByRecursion}
 use Rattle.wire.specs.Format.{orders_of, pack, signed, no_seal}
 use Rattle.wire.specs.Read.{proposal_stands, vote_stands}

@@ -1,4 +1,5 @@
 // The records that consoles send one another: their types, writers and the reader of a datagram.
+#![tactic(auto)]
 
 pub mod body;
 pub mod certificate;

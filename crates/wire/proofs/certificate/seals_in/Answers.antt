@@ -1,7 +1,7 @@
-use Rattle.std.proofs.Common.{◌≡◌, ℕ, ◌*◌, ◌<◌, ◌≤◌, length, sym, refl, ap, ◌∙◌, arith, rules}
+use Rattle.std.proofs.Common.{◌≡◌, ℕ, ◌<◌, sym, refl, ap, ◌∙◌, arith, rules}
 use Rattle.wire.specs.Bytes.{field}
 use Rattle.wire.specs.Read.{seals_in}
-use Rattle.wire.proofs.Signing.{before, before_none, before_in, before_out, before_signer, spread, spread-in, spread-out}
+use Rattle.wire.proofs.Signing.{before_none, before_in, before_out, before_signer, spread, spread-in, spread-out}
 use Rattle.wire.proofs.certificate.seals_in.Goals as goal
 use Rattle.wire.proofs.certificate.seals_in.Goals.{then-has, else-has}
 

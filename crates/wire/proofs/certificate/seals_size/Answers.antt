@@ -1,4 +1,4 @@
-use Rattle.std.proofs.Common.{◌<◌, sym, ap, ◌∙◌, arith, rules}
+use Rattle.std.proofs.Common.{◌<◌, arith, rules}
 use Rattle.wire.proofs.Signing.{before-all, packed_size}
 use Rattle.wire.proofs.certificate.seals_size.Goals as goal
 

@@ -1,4 +1,4 @@
-use Rattle.std.proofs.Common.{sym, ◌∙◌, arith, rules}
+use Rattle.std.proofs.Common.{sym, ◌∙◌, rules}
 use Rattle.wire.proofs.Numbers.{be_4}
 use Rattle.wire.proofs.Writing.{wrote_as}
 use Rattle.wire.proofs.put.put_u32.Goals as goal

@@ -1,6 +1,6 @@
-use Rattle.std.proofs.Common.{◌≡◌, ℕ, List, drop, sym, ap, ◌∙◌, subst}
+use Rattle.std.proofs.Common.{ℕ, List, sym, ap, ◌∙◌, subst}
 use Rattle.std.proofs.lemmas.List.{take_rest}
-use Rattle.wire.specs.Parts.{Parted, outcome}
+use Rattle.wire.specs.Parts.{Parted}
 use Rattle.wire.specs.Read.{read_proposal, read_vote}
 use Rattle.wire.proofs.Proposals.{read_as_proposal, read_as_vote, read_as_neither}
 use Rattle.wire.proofs.reading.read.Goals as goal

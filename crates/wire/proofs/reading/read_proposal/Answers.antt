@@ -1,4 +1,4 @@
-use Rattle.std.proofs.Common.{◌≡◌, ℕ, ◌<◌, sym, ap, ◌∙◌, arith}
+use Rattle.std.proofs.Common.{ℕ, ◌<◌, sym, arith}
 use Rattle.std.proofs.ByRecursion.{All-from_get_or}
 use Rattle.wire.specs.Read.{read_proposal}
 use Rattle.wire.proofs.Proposals.{body_is, certificate-part-is, seal-is, few-orders, body-whole, certificate-whole, seal-whole, read-unmarked, read-fallen, read-stands, body-named}

@@ -1,4 +1,3 @@
-use Rattle.std.proofs.Common.{ap, arith}
 use Rattle.std.proofs.lemmas.List.{take_rest}
 use Rattle.wire.specs.Read.{body_in}
 use Rattle.wire.proofs.body.Body.read.Goals as goal

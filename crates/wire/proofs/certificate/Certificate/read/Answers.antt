@@ -1,4 +1,3 @@
-use Rattle.std.proofs.Common.{arith}
 use Rattle.std.proofs.lemmas.List.{take_rest}
 use Rattle.wire.specs.Read.{certificate_in}
 use Rattle.wire.proofs.certificate.Certificate.read.Goals as goal

@@ -1,6 +1,4 @@
-use Rattle.std.proofs.Common.{length, arith}
-use Rattle.std.proofs.lemmas.List.{length-append}
-use Rattle.wire.specs.Format.{certificate_bytes}
+use Rattle.std.proofs.Common.{arith}
 use Rattle.wire.proofs.Sizes.{length-certificate}
 use Rattle.wire.proofs.certificate.Certificate.size.Goals as goal
 
