@@ -22,18 +22,18 @@ use Rattle.sheets.specs.Sound.{SoundSheet}
 use Rattle.sheets.specs.Timely.{Inside, HandsOver, HoldsUpTo}
 use Rattle.safety.proofs.Agreement.{lawful}
 use Rattle.safety.proofs.Histories.{blocks, consoles, history, shown_sheet, chain_own, sound_earlier}
-use Rattle.safety.proofs.Ledgers.{tally-certified, backed-certified}
+use Rattle.safety.proofs.Ledgers.{tally_certified, backed_certified}
 use Rattle.rules.specs.Shelves.{held_on}
 use Rattle.liveness.proofs.Effects.{voted_state}
 use Rattle.liveness.proofs.Growth.{Grows, LedgerGrows, Ends, step_on}
 use Rattle.liveness.proofs.Induct.{stepped, done_open, state_next}
-use Rattle.liveness.proofs.Reach.{Lined, head-ancestor, reaches-new, last-link, chain-last}
+use Rattle.liveness.proofs.Reach.{Lined, head_ancestor, reaches_new, last_link, chain_last}
 use Rattle.liveness.specs.Liveness.{StretchesHandOver}
 use Rattle.liveness.proofs.Readables.{readable}
-use Rattle.liveness.proofs.Rounds.{Later, Round, key_of, Free, launch, launch-tick, body_view, parent-is-top, its-body, head-below, Held, all_hold, holds_on, all-vote, Full, all-full}
+use Rattle.liveness.proofs.Rounds.{Later, Round, key_of, Free, launch, launch_tick, body_view, parent_is_top, its_body, head_below, Held, all_hold, holds_on, all_vote, Full, all_full}
 use Rattle.liveness.proofs.Run.{T_is}
 use Rattle.liveness.proofs.Settling.{Ripe, ripe_moves, settled_hands, settled_on, settled_head, member_last}
-use Rattle.liveness.proofs.Stretches.{Now, Case, At, before-spot, after-spot, the-start, the_end, open_at, live, ledger-sound, grown, across, not-opening, Ticks, tick-line, tick-below, tick-above, tick-capped, quiet, taken_at}
+use Rattle.liveness.proofs.Stretches.{Now, Case, At, before_spot, after_spot, the_start, the_end, open_at, live, ledger_sound, grown, across, not_opening, Ticks, tick_line, tick_below, tick_above, tick_capped, quiet, taken_at}
 
 module _ (c : Case) where
   abbrev pub first : Round c
@@ -76,7 +76,7 @@ module _ (c : Case) where
   own_turn = ap (λ (x : Owed). x.view) c.timely.first.its_turn
 
   parent_below : body.parent.view < body.view
-  parent_below = omega (arith, ap (λ (k : Key). k.view) (parent-is-top c first), (launch c first).stands.above_top, own_turn, body_view c first)
+  parent_below = omega (arith, ap (λ (k : Key). k.view) (parent_is_top c first), (launch c first).stands.above_top, own_turn, body_view c first)
 
   -- ---- all may vote for the first block
 
@@ -91,23 +91,23 @@ module _ (c : Case) where
   then i sound =
       let l = launch c first in
       let top = c.timely.top_reached l.s l.at.is i sound in
-      let e = sym (parent-is-top c first) in
+      let e = sym (parent_is_top c first) in
       record {
         s = top.0;
-        at = record { sound = sound; now = before-spot c c.timely.first.spot c.timely.first.inside; is = top.1 };
+        at = record { sound = sound; now = before_spot c c.timely.first.spot c.timely.first.inside; is = top.1 };
         lock = subst (λ (k : Key). top.0.marks.lock ≤ k.view) e top.2.0;
         lined = subst (HoldsUpTo top.0) e top.2.1;
       }
 
-  first-free : Free c first
-  first-free i p t s a =
+  first_free : Free c first
+  first_free i p t s a =
       let z = c.timely.all_ready i a.sound in
-      let start : At c i c.st.before z.0 = record { sound = a.sound; now = the-start c; is = z.1 } in
+      let start : At c i c.st.before z.0 = record { sound = a.sound; now = the_start c; is = z.1 } in
       let n = then i a.sound in
       let h = all_hold c first i a.sound in
-      let g = grown c i c.timely.first.spot.earlier h.m n.s h.s n.at h.at (omega (arith, h.proposed-before)) in
+      let g = grown c i c.timely.first.spot.earlier h.m n.s h.s n.at h.at (omega (arith, h.proposed_before)) in
       let now = quiet c i c.v c.st.before p.earlier z.0 s start a a.now.inside ticks
-      (tick-below c i (2 * c.v + 1) p t p.earlier s a (omega arith)) in
+      (tick_below c i (2 * c.v + 1) p t p.earlier s a (omega arith)) in
       let old = quiet c i c.v c.st.before c.timely.first.spot.earlier z.0 n.s start n.at n.at.now.inside ticks
       (omega (arith, g.tick, h.tick)) in
       (omega (arith, now.0, z.2.1), omega (arith, now.1, old.1, n.lock))
@@ -119,86 +119,86 @@ module _ (c : Case) where
   -- ---- the first block is certified when view v + 1 begins
 
   -- before its tick 2v + 2 each console holds it with a quorum
-  record At-turn (i : ℕ) : Type 0 where
+  record AtTurn (i : ℕ) : Type 0 where
     pub p : Spot c.st.run
     pub line : Ticks c i (2 * c.v + 2) p
     pub s : State
     pub at : At c i p.earlier s
     pub full : Full c first s
 
-  at_turn : (i : ℕ) → Sound c.pit i → At-turn i
+  at_turn : (i : ℕ) → Sound c.pit i → AtTurn i
   at_turn i sound =
-      let t = tick-line c i sound (2 * c.v + 2) (omega arith) (omega arith) in
+      let t = tick_line c i sound (2 * c.v + 2) (omega arith) (omega arith) in
       let p = t.0 in
-      let o = open_at c i sound p.earlier (before-spot c p t.1.inside) in
+      let o = open_at c i sound p.earlier (before_spot c p t.1.inside) in
       let l = live c i p.earlier o.0 o.1 in
-      let high = tick-below c i (2 * c.v + 2) p t.1 p.earlier o.0 o.1 (omega arith) in
+      let high = tick_below c i (2 * c.v + 2) p t.1 p.earlier o.0 o.1 (omega arith) in
       let later : Later c first i p.earlier = λ m s a e. ⊎_elim
-      (λ early. absurd (omega (arith, e, tick-above c i (2 * c.v + 2) p t.1 m s a early))) (λ late. late)
+      (λ early. absurd (omega (arith, e, tick_above c i (2 * c.v + 2) p t.1 m s a early))) (λ late. late)
       (cases_lt (length p.earlier) (length m)) in
       record {
         p = p;
         line = t.1;
         s = o.0;
         at = o.1;
-        full = all-full c first first-free i p.earlier o.0 o.1 later
-            (head-below c first i p.earlier o.0 o.1 (omega (arith, l.clock, high)));
+        full = all_full c first first_free i p.earlier o.0 o.1 later
+            (head_below c first i p.earlier o.0 o.1 (omega (arith, l.clock, high)));
       }
 
-  abbrev next-leader : ℕ
-  next-leader = leader c.pit.n (c.v + 1)
+  abbrev next_leader : ℕ
+  next_leader = leader c.pit.n (c.v + 1)
 
-  first-certified : Sure key
-  first-certified =
-      let t = at_turn next-leader c.timely.next_leader_sound in
+  first_certified : Sure key
+  first_certified =
+      let t = at_turn next_leader c.timely.next_leader_sound in
       let f = t.full in
       let w = held_on key t.s.ledger.shelf f.b f.holds in
-      subst Sure w.1 (tally-certified c.pit H f.b ((ledger-sound c next-leader t.p.earlier t.s t.at).shelf f.b w.0) f.quorum)
+      subst Sure w.1 (tally_certified c.pit H f.b ((ledger_sound c next_leader t.p.earlier t.s t.at).shelf f.b w.0) f.quorum)
 
   -- a certified key of view v is the first block's
-  only-first : (k : Key) → Sure k → k.view ≡ c.v → k ≡ key
-  only-first k s e = one-per-view blocks (consoles c.pit) H law k key s first-certified (e ∙ sym (body_view c first))
+  only_first : (k : Key) → Sure k → k.view ≡ c.v → k ≡ key
+  only_first k s e = one-per-view blocks (consoles c.pit) H law k key s first_certified (e ∙ sym (body_view c first))
 
   -- the second block is built on it
-  built-on : c.timely.second.body.parent ≡ key
-  built-on =
-      let t = at_turn next-leader c.timely.next_leader_sound in
+  built_on : c.timely.second.body.parent ≡ key
+  built_on =
+      let t = at_turn next_leader c.timely.next_leader_sound in
       let f = t.full in
       let w = held_on key t.s.ledger.shelf f.b f.holds in
       let y = launch c second in
       let q = c.timely.second.spot.earlier in
-      let l = live c next-leader t.p.earlier t.s t.at in
+      let l = live c next_leader t.p.earlier t.s t.at in
       let covers = l.ledger.counted f.b w.0 (subst (λ (n : ℕ). is_quorum n f.b.tally.set ≡ true) (sym l.size) f.quorum) in
       let at_view : f.b.body.view ≡ c.v = ap (λ (k : Key). k.view) w.1 ∙ body_view c first in
       let later : length t.p.earlier ≤ length c.timely.second.spot.earlier = ⊎_elim
-      (λ early. absurd (omega (arith, launch-tick c second, tick-below c next-leader (2 * c.v + 2) t.p t.line q y.s y.at (omega (arith, early)))))
+      (λ early. absurd (omega (arith, launch_tick c second, tick_below c next_leader (2 * c.v + 2) t.p t.line q y.s y.at (omega (arith, early)))))
       (λ late. late) (cases_lt (length c.timely.second.spot.earlier) (length t.p.earlier)) in
-      let g = grown c next-leader t.p.earlier q t.s y.s t.at y.at later in
+      let g = grown c next_leader t.p.earlier q t.s y.s t.at y.at later in
       let turn : c.timely.second.owed.view ≡ c.v + 1 = ap (λ (x : Owed). x.view) c.timely.second.its_turn in
       let top : y.s.ledger.top.block.view ≡ c.v = omega (arith, covers, at_view, g.ledger.top, y.stands.above_top, turn) in
-      let sure = backed-certified c.pit H y.s.ledger.top.block (omega (arith, top, c.timely.positive))
-      (ledger-sound c next-leader q y.s y.at).top in
-      parent-is-top c second ∙ only-first y.s.ledger.top.block sure top
+      let sure = backed_certified c.pit H y.s.ledger.top.block (omega (arith, top, c.timely.positive))
+      (ledger_sound c next_leader q y.s y.at).top in
+      parent_is_top c second ∙ only_first y.s.ledger.top.block sure top
 
   -- ---- all may vote for the second block
 
-  second-free : Free c second
-  second-free i p t s a =
-      let v = all-vote c first first-free i a.sound in
+  second_free : Free c second
+  second_free i p t s a =
+      let v = all_vote c first first_free i a.sound in
       let w = voted_state v.b v.p.line.seal (clocked v.s (2 * c.v + 1)) in
       let m = v.p.line ∷ v.p.earlier in
       let later : length m ≤ length p.earlier = ⊎_elim
-      (λ early. absurd (omega (arith, w.0, tick-above c i (2 * (c.v + 1) + 1) p t m _ v.after early)))
+      (λ early. absurd (omega (arith, w.0, tick_above c i (2 * (c.v + 1) + 1) p t m _ v.after early)))
       (λ late. late) (cases_lt (length p.earlier) (length m)) in
       let q = quiet c i (c.v + 1) m p.earlier _ s v.after a later
       (λ q l k e x call.
-      let o = open_at c i a.sound q.earlier (before-spot c q l) in
+      let o = open_at c i a.sound q.earlier (before_spot c q l) in
       let taken = taken_at c i x q (record { inside = l; console = e; call = call }) o.0 o.1.is in
       omega (arith, taken.0.later, (grown c i m q.earlier _ o.0 v.after o.1 k).tick, w.0))
-      (tick-below c i (2 * (c.v + 1) + 1) p t p.earlier s a (omega arith)) in
-      let on : c.timely.second.body.parent.view ≡ c.v = ap (λ (k : Key). k.view) built-on ∙ body_view c first in
+      (tick_below c i (2 * (c.v + 1) + 1) p t p.earlier s a (omega arith)) in
+      let on : c.timely.second.body.parent.view ≡ c.v = ap (λ (k : Key). k.view) built_on ∙ body_view c first in
       let half : view_of (2 * c.v + 1) ≡ c.v = omega arith in
-      let lock = ap (λ (x : Body). x.parent.view) v.its-body-is in
+      let lock = ap (λ (x : Body). x.parent.view) v.its_body_is in
       (omega (arith, q.0, w.3, half), omega (arith, q.1, w.4, lock, parent_below, body_view c first, on))
 
   -- ---- the first block reaches each head
@@ -209,21 +209,21 @@ module _ (c : Case) where
       c.good.digests x body (shown_sheet c.pit c.st.run x shown) (c.timely.first.spot, c.timely.first.shows) (ap (λ (k : Key). k.name) e)
 
   -- a head below view v is an ancestor of the first block's parent
-  parent-ancestor : (i : ℕ) (m : Sheet) (w : State) → At c i m w → w.ledger.head.view < c.v → Ancestor blocks H w.ledger.head body.parent
-  parent-ancestor i m w a l =
-      let s = (ledger-sound c i m w a).settled in
+  parent_ancestor : (i : ℕ) (m : Sheet) (w : State) → At c i m w → w.ledger.head.view < c.v → Ancestor blocks H w.ledger.head body.parent
+  parent_ancestor i m w a l =
+      let s = (ledger_sound c i m w a).settled in
       let b = body_view c first in
-      let n = head-ancestor blocks H (consoles c.pit) law w.ledger.head key s.final first-certified (omega (arith, l, b)) in
+      let n = head_ancestor blocks H (consoles c.pit) law w.ledger.head key s.final first_certified (omega (arith, l, b)) in
       ⊎_elim
       (λ e. absurd (omega (arith, l, b, ap (λ (k : Key). k.view) e)))
       (λ x. subst (λ (y : Body). Ancestor blocks H w.ledger.head y.parent) (first_body x.0 x.1 x.2) x.3)
-      (last-link blocks H n.0 w.ledger.head key n.1)
+      (last_link blocks H n.0 w.ledger.head key n.1)
 
   -- The line from the first block reaches a head below view v, on every ledger that grew from the console's with that head.
-  reach-at : (i : ℕ) (m : Sheet) (w : State) → At c i m w → length c.timely.first.spot.earlier ≤ length m
+  reach_at : (i : ℕ) (m : Sheet) (w : State) → At c i m w → length c.timely.first.spot.earlier ≤ length m
       → (g : Ledger) → LedgerGrows w.ledger g → g.head ≡ w.ledger.head → w.ledger.head.view < c.v
       → (b : Block) → b.body ≡ body → reaches g.shelf g.head b ≡ true
-  reach-at i m w a later g grows same low b is = ⊎_elim (λ e. reaching 0 (inl e))
+  reach_at i m w a later g grows same low b is = ⊎_elim (λ e. reaching 0 (inl e))
       (λ x. reaching (suc x.0.body.view) (inr (x.0, x.1, T_is _ x.2))) (then i a.sound).lined
     where
       old : Then i
@@ -238,11 +238,11 @@ module _ (c : Case) where
       up : Ancestor blocks H g.head b.body.parent
       up =
           subst (λ (y : Body). Ancestor blocks H g.head y.parent) (sym is)
-          (subst (λ (k : Key). Ancestor blocks H k body.parent) (sym same) (parent-ancestor i m w a low))
+          (subst (λ (k : Key). Ancestor blocks H k body.parent) (sym same) (parent_ancestor i m w a low))
 
       reaching : (n : ℕ) → Lined old.s.ledger.shelf old.s.ledger.head n body.parent → reaches g.shelf g.head b ≡ true
       reaching n line =
-          reaches-new c.pit H law old.s.ledger.shelf (ledger-sound c i c.timely.first.spot.earlier old.s old.at).shelf
+          reaches_new c.pit H law old.s.ledger.shelf (ledger_sound c i c.timely.first.spot.earlier old.s old.at).shelf
           old.s.ledger.head g.shelf g.head (omega (arith, grew.ledger.head, same_view))
           (λ k d h l.
           let x = grew.ledger.held_on k d h (omega (arith, l, same_view)) in
@@ -255,19 +255,19 @@ module _ (c : Case) where
   -- ---- settling finds the first block
 
   -- where the second block has a quorum, the head has come to view v
-  abbrev Caught-up : State → Type 0
-  Caught-up s = (b : Block) → held (key_of c second) s.ledger.shelf ≡ Some b → is_quorum c.pit.n b.tally.set ≡ true → c.v ≤ s.ledger.head.view
+  abbrev CaughtUp : State → Type 0
+  CaughtUp s = (b : Block) → held (key_of c second) s.ledger.shelf ≡ Some b → is_quorum c.pit.n b.tally.set ≡ true → c.v ≤ s.ledger.head.view
 
   -- a line of the stretch at console i, in state w before it
-  module _ (i : ℕ) (p : Spot c.st.run) (l : Inside c.st p) (own : p.line.console ≡ i) (w : State) (at-w : At c i p.earlier w) where
+  module _ (i : ℕ) (p : Spot c.st.run) (l : Inside c.st p) (own : p.line.console ≡ i) (w : State) (at_w : At c i p.earlier w) where
     abbrev o : Outcome
     o = stepped c.pit i p.line w
 
     after : At c i (p.line ∷ p.earlier) o.state
-    after = record { sound = at-w.sound; now = after-spot c p l; is = state_next c.pit i p.line p.earlier w own at-w.is }
+    after = record { sound = at_w.sound; now = after_spot c p l; is = state_next c.pit i p.line p.earlier w own at_w.is }
 
     ended : Ends w o
-    ended = (step_on (c.pit.table i) p.line.seal w p.line.call (not-opening c p l)).ends
+    ended = (step_on (c.pit.table i) p.line.seal w p.line.call (not_opening c p l)).ends
 
     module _ (h : Held c first i) (later : length h.m ≤ length p.earlier) where
       -- the first block is ripe where the second has a quorum and the head is still below it
@@ -276,15 +276,15 @@ module _ (c : Case) where
           → w.ledger.head.view < c.v → (d : Block) × Ripe w.seat.n g d × (d.body.view ≡ c.v)
       ripe g e grows same b holds quorum low =
           let old = ap (λ (k : Key). k.view) same in
-          let x = holds_on c first i p.earlier w at-w h later low in
+          let x = holds_on c first i p.earlier w at_w h later low in
           let y = grows.held_on key x.0 x.1 (omega (arith, low, old, body_view c first)) in
           let here = held_on key w.ledger.shelf x.0 x.1 in
           let there = held_on key g.shelf y.0 y.1 in
-          let is = y.2.body ∙ its-body c first i p.earlier w at-w x.0 here.0 here.1 in
+          let is = y.2.body ∙ its_body c first i p.earlier w at_w x.0 here.0 here.1 in
           let child = held_on (key_of c second) o.state.ledger.shelf b holds in
-          let child-is = its-body c second i (p.line ∷ p.earlier) o.state after b child.0 child.1 in
+          let child_is = its_body c second i (p.line ∷ p.earlier) o.state after b child.0 child.1 in
           let view = ap (λ (z : Body). z.view) is ∙ body_view c first in
-          let child-view = ap (λ (z : Body). z.view) child-is ∙ body_view c second in (
+          let child_view = ap (λ (z : Body). z.view) child_is ∙ body_view c second in (
             y.0,
             record {
               on = there.0;
@@ -292,17 +292,17 @@ module _ (c : Case) where
               child = b;
               confirmed = record {
                 on = settled_on w.seat.n g b (subst (λ (z : Ledger). On b z.shelf) e child.0);
-                upon = ap (λ (z : Body). z.parent) child-is ∙ built-on ∙ sym there.1;
-                next = omega (arith, view, child-view);
+                upon = ap (λ (z : Body). z.parent) child_is ∙ built_on ∙ sym there.1;
+                next = omega (arith, view, child_view);
                 certain = or_left (is_quorum w.seat.n b.tally.set) _
-                    (subst (λ (z : ℕ). is_quorum z b.tally.set ≡ true) (sym (live c i p.earlier w at-w).size) quorum);
+                    (subst (λ (z : ℕ). is_quorum z b.tally.set ≡ true) (sym (live c i p.earlier w at_w).size) quorum);
               };
-              reaching = reach-at i p.earlier w at-w (omega (arith, h.proposed-before, later)) g grows same low y.0 is;
+              reaching = reach_at i p.earlier w at_w (omega (arith, h.proposed_before, later)) g grows same low y.0 is;
             },
             view,
           )
 
-      catches : Caught-up w → Ends w o → Caught-up o.state
+      catches : CaughtUp w → Ends w o → CaughtUp o.state
       catches old (inl e) = λ b holds quorum.
           omega (arith, old b (ap (λ (g : Ledger). held (key_of c second) g.shelf) (sym e) ∙ holds) quorum, ap (λ (g : Ledger). g.head.view) e)
       catches old (inr x) = λ b holds quorum. ⊎_elim
@@ -314,24 +314,24 @@ module _ (c : Case) where
           (cases_lt w.ledger.head.view c.v)
 
   -- at the end every head has come to view v
-  head-at-end : (i : ℕ) → Sound c.pit i → (s : State) → At c i c.st.run s → c.v ≤ s.ledger.head.view
-  head-at-end i sound s a =
+  head_at_end : (i : ℕ) → Sound c.pit i → (s : State) → At c i c.st.run s → c.v ≤ s.ledger.head.view
+  head_at_end i sound s a =
       let h = all_hold c first i sound in
       let l = live c i h.m h.s h.at in
-      let start : Caught-up h.s = λ b e q. absurd (
+      let start : CaughtUp h.s = λ b e q. absurd (
       let w = held_on (key_of c second) h.s.ledger.shelf b e in
       omega (arith, (l.ledger.blocks b w.0).reached, ap (λ (k : Key). k.view) w.1, body_view c second, l.clock, h.tick)) in
-      let caught = across c i h.m h.at.now (λ x y. Caught-up x → Caught-up y) (λ x y. y)
+      let caught = across c i h.m h.at.now (λ x y. CaughtUp x → CaughtUp y) (λ x y. y)
       (λ p k f own x w hw q y.
-      let a : At c i p.earlier w = record { sound = sound; now = before-spot c p k; is = hw } in
+      let a : At c i p.earlier w = record { sound = sound; now = before_spot c p k; is = hw } in
       catches i p k own w a h f (q y) (ended i p k own w a))
-      c.st.run (the_end c) (before-end h.m h.at.now) h.s s h.at.is a.is start in
-      let full = all-full c second second-free i c.st.run s a (λ m w b e. before-end m b.now)
-      (head-below c second i c.st.run s a (omega (arith, (live c i c.st.run s a).clock, tick-capped c i c.st.run s a))) in
+      c.st.run (the_end c) (before_end h.m h.at.now) h.s s h.at.is a.is start in
+      let full = all_full c second second_free i c.st.run s a (λ m w b e. before_end m b.now)
+      (head_below c second i c.st.run s a (omega (arith, (live c i c.st.run s a).clock, tick_capped c i c.st.run s a))) in
       caught full.b full.holds full.quorum
     where
-      before-end : (m : Sheet) → Now c m → length m ≤ length c.st.run
-      before-end m n = omega (arith, ap (λ (x : Sheet). length x) n.here, length-append n.later m)
+      before_end : (m : Sheet) → Now c m → length m ≤ length c.st.run
+      before_end m n = omega (arith, ap (λ (x : Sheet). length x) n.here, length-append n.later m)
 
   -- ---- it is handed over
 
@@ -339,42 +339,42 @@ module _ (c : Case) where
   Over i = HandsOver c.pit c.st i body
 
   -- the line on which the head comes to view v hands it over
-  module _ (i : ℕ) (p : Spot c.st.run) (l : Inside c.st p) (own : p.line.console ≡ i) (w : State) (at-w : At c i p.earlier w) where
+  module _ (i : ℕ) (p : Spot c.st.run) (l : Inside c.st p) (own : p.line.console ≡ i) (w : State) (at_w : At c i p.earlier w) where
     abbrev q : Outcome
     q = stepped c.pit i p.line w
 
     a : At c i (p.line ∷ p.earlier) q.state
-    a = after i p l own w at-w
+    a = after i p l own w at_w
 
     -- a head of view v or above is the first block
-    head-is : c.v ≤ q.state.ledger.head.view → q.state.ledger.head ≡ key
-    head-is late =
+    head_is : c.v ≤ q.state.ledger.head.view → q.state.ledger.head ≡ key
+    head_is late =
         let lv = live c i (p.line ∷ p.earlier) q.state a in
         let view : q.state.ledger.head.view ≡ c.v = ⊎_elim
-        (λ x. omega (arith, x, late, tick-capped c i (p.line ∷ p.earlier) q.state a, lv.clock))
-        (λ x. absurd (omega (arith, x, late, c.timely.positive))) lv.ledger.head-below in
+        (λ x. omega (arith, x, late, tick_capped c i (p.line ∷ p.earlier) q.state a, lv.clock))
+        (λ x. absurd (omega (arith, x, late, c.timely.positive))) lv.ledger.head_below in
         let sure : Sure q.state.ledger.head = ⊎_elim
         (λ x. absurd (omega (arith, ap (λ (k : Key). k.view) x, view, c.timely.positive))) (λ x. x.certified)
-        (ledger-sound c i (p.line ∷ p.earlier) q.state a).settled.final in
-        only-first q.state.ledger.head sure view
+        (ledger_sound c i (p.line ∷ p.earlier) q.state a).settled.final in
+        only_first q.state.ledger.head sure view
 
     hands : c.v ≤ q.state.ledger.head.view → (zs : List Body) (b : Body) → q.handed ≡ zs ++ (b ∷ []) → Over i
     hands late zs b e =
-        let handed : handed_in (did c.pit p) ≡ zs ++ (b ∷ []) = ap handed_in (done_open c.pit i p.line p.earlier w own at-w.is) ∙ e in
+        let handed : handed_in (did c.pit p) ≡ zs ++ (b ∷ []) = ap handed_in (done_open c.pit i p.line p.earlier w own at_w.is) ∙ e in
         let old = chain c.pit i p.earlier in
         let longer : chain c.pit i (p.line ∷ p.earlier) ≡ old ++ handed_in (did c.pit p) =
         subst (λ (j : ℕ). chain c.pit j (p.line ∷ p.earlier) ≡ chain c.pit j p.earlier ++ handed_in (did c.pit p)) own
-        (chain_own c.pit p.line p.earlier (not-opening c p l)) in
+        (chain_own c.pit p.line p.earlier (not_opening c p l)) in
         let ends : chain c.pit i (p.line ∷ p.earlier) ≡ (old ++ zs) ++ (b ∷ []) =
         longer ∙ ap (λ (x : List Body). old ++ x) handed ∙ sym (append_assoc old zs (b ∷ [])) in
-        let last = chain-last blocks H (old ++ zs) b origin q.state.ledger.head
+        let last = chain_last blocks H (old ++ zs) b origin q.state.ledger.head
         (subst (λ (x : List Body). Chain blocks H origin x q.state.ledger.head) ends
-        (ledger-sound c i (p.line ∷ p.earlier) q.state a).settled.line) in
-        let this : b ≡ body = first_body b last.0 (last.1 ∙ head-is late) in
+        (ledger_sound c i (p.line ∷ p.earlier) q.state a).settled.line) in
+        let this : b ≡ body = first_body b last.0 (last.1 ∙ head_is late) in
         (p, l, own, subst (λ (x : List Body). Memᴰ body x) (sym handed) (subst (λ (x : Body). Memᴰ x (zs ++ (b ∷ []))) this (member_last zs b)))
 
     crossing : w.ledger.head.view < c.v → (q.state.ledger.head.view < c.v) ⊎ Over i
-    crossing low = ⊎_elim (λ early. inl early) (λ late. inr (at late (ended i p l own w at-w))) (cases_lt q.state.ledger.head.view c.v)
+    crossing low = ⊎_elim (λ early. inl early) (λ late. inr (at late (ended i p l own w at_w))) (cases_lt q.state.ledger.head.view c.v)
       where
         at : c.v ≤ q.state.ledger.head.view → Ends w q → Over i
         at late (inl e) = absurd (omega (arith, late, low, ap (λ (g : Ledger). g.head.view) e))
@@ -386,16 +386,16 @@ module _ (c : Case) where
   pub handed_over : (i : ℕ) → Sound c.pit i → HandsOver c.pit c.st i c.timely.first.body
   handed_over i sound =
       let z = c.timely.all_ready i sound in
-      let l = live c i c.st.before z.0 (record { sound = sound; now = the-start c; is = z.1 }) in
+      let l = live c i c.st.before z.0 (record { sound = sound; now = the_start c; is = z.1 }) in
       let e = open_at c i sound c.st.run (the_end c) in
       let low : z.0.ledger.head.view < c.v = ⊎_elim
-      (λ x. omega (arith, x, l.clock, z.2.0)) (λ x. omega (arith, x, c.timely.positive)) l.ledger.head-below in
-      let r = across c i c.st.before (the-start c) (λ x y. x.ledger.head.view < c.v → (y.ledger.head.view < c.v) ⊎ Over i)
+      (λ x. omega (arith, x, l.clock, z.2.0)) (λ x. omega (arith, x, c.timely.positive)) l.ledger.head_below in
+      let r = across c i c.st.before (the_start c) (λ x y. x.ledger.head.view < c.v → (y.ledger.head.view < c.v) ⊎ Over i)
       (λ x y. inl y)
       (λ p k f own x w hw q y.
-      ⊎_elim (crossing i p k own w (record { sound = sound; now = before-spot c p k; is = hw })) (λ h. inr h) (q y))
+      ⊎_elim (crossing i p k own w (record { sound = sound; now = before_spot c p k; is = hw })) (λ h. inr h) (q y))
       c.st.run (the_end c) (the_end c).inside z.0 e.0 z.1 e.1.is low in
-      ⊎_elim (λ early. absurd (omega (arith, early, head-at-end i sound e.0 e.1))) (λ h. h) r
+      ⊎_elim (λ early. absurd (omega (arith, early, head_at_end i sound e.0 e.1))) (λ h. h) r
 
 -- In a timely stretch every sound console hands over the block of its first view.
 pub hand_over : StretchesHandOver

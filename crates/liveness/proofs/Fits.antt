@@ -21,7 +21,7 @@ use Rattle.wire.specs.declared.message.Vote.{Vote}
 use Rattle.wire.specs.declared.unreadable.Unreadable.{Unreadable}
 use Rattle.wire.proofs.Proposals.{field-take}
 use Rattle.wire.proofs.Signing.{before, before_signer}
-use Rattle.wire_laws.proofs.Certificates.{set-below}
+use Rattle.wire_laws.proofs.Certificates.{set_below}
 use Rattle.liveness.proofs.Live.{holds_signed}
 
 -- sixteen seals of 16 bytes, zeros but for the signers, who are below n
@@ -139,7 +139,7 @@ certificate_fits n bytes p octets e below = at (read_parts n bytes (message.Prop
         let same_set : number 38 2 cp ≡ number 38 2 pb = ap num (field-take 38 2 (certificate_length pb) pb (omega arith)) in
         let o : Octets cp = All-take (λ (k : ℕ). k < 256) (certificate_length pb) pb
         (All-drop (λ (k : ℕ). k < 256) (body_length (drop 2 bytes)) (drop 2 bytes) (All-drop (λ (k : ℕ). k < 256) 2 bytes octets)) in
-        let small = set-below 38 cp o (omega (arith, len)) in
+        let small = set_below 38 cp o (omega (arith, len)) in
         let rest : length (drop 40 cp) ≡ 16 * ones (number 38 2 cp) =
         length-drop 40 cp ∙ (let c : length cp ≡ 40 + 16 * ones (number 38 2 cp) = len ∙ ap (λ (x : ℕ). 40 + 16 * ones x) (sym same_set) in omega (arith, c)) in
         let low : number 38 2 cp < 2 ^ n = subst (λ (x : Proposal). x.certificate.signers.set < 2 ^ n) (sym same) below in

@@ -29,17 +29,17 @@ module _ (pit : Pit) (i : ℕ) (P : Sheet → State → Type 0)
     (first : (l : Line) (ls : Sheet) (slots : ℕ) → l.console ≡ i → P (l ∷ ls) (opened (record { n = pit.n; own = i; slots = slots }) no_marks))
     (other : (l : Line) (ls : Sheet) (s : State) → P ls s → P (l ∷ ls) s)
     (own : (l : Line) (ls : Sheet) (s : State) → l.console ≡ i → state_at pit i ls ≡ Some s → P ls s → P (l ∷ ls) (stepped pit i l s).state) where
-  opened-first : (l : Line) (ls : Sheet) (s : State) → l.console ≡ i → (c : Call) → state_after (first_opening pit i c) None ≡ Some s → P (l ∷ ls) s
-  opened-first l ls s e (opening slots) h = subst (P (l ∷ ls)) (same_some _ s h) (first l ls slots e)
-  opened-first l ls s e (ticking t) h = absent s h
-  opened-first l ls s e (proposing owed orders space) h = absent s h
-  opened-first l ls s e (passing owed) h = absent s h
-  opened-first l ls s e (hearing bytes) h = absent s h
+  opened_first : (l : Line) (ls : Sheet) (s : State) → l.console ≡ i → (c : Call) → state_after (first_opening pit i c) None ≡ Some s → P (l ∷ ls) s
+  opened_first l ls s e (opening slots) h = subst (P (l ∷ ls)) (same_some _ s h) (first l ls slots e)
+  opened_first l ls s e (ticking t) h = absent s h
+  opened_first l ls s e (proposing owed orders space) h = absent s h
+  opened_first l ls s e (passing owed) h = absent s h
+  opened_first l ls s e (hearing bytes) h = absent s h
 
   own_line : (l : Line) (ls : Sheet) (s : State) → l.console ≡ i → (o : Option State) → state_at pit i ls ≡ o
       → ((w : State) → state_at pit i ls ≡ Some w → P ls w) → state_after (advance pit l o) o ≡ Some s → P (l ∷ ls) s
   own_line l ls s e None k ih h =
-      opened-first l ls s e l.call (subst (λ (j : ℕ). state_after (first_opening pit j l.call) None ≡ Some s) e h)
+      opened_first l ls s e l.call (subst (λ (j : ℕ). state_after (first_opening pit j l.call) None ≡ Some s) e h)
   own_line l ls s e (Some w) k ih h =
       let f : (stepped pit i l w).state ≡ s = subst (λ (j : ℕ). (stepped pit j l w).state ≡ s) e (same_some _ s h) in
       subst (P (l ∷ ls)) f (own l ls w e k (ih w k))

@@ -74,21 +74,21 @@ top_rises n top b t =
 -- ---- what holds
 
 module _ (table : Table) (n : ℕ) (Led : Key → Type 0) where
-  pub record Live-block (view : ℕ) (b : Block) : Type 0 where
+  pub record LiveBlock (view : ℕ) (b : Block) : Type 0 where
     pub reached : b.body.view ≤ view
     pub led : Led (block_key b)
     pub sixteen : length b.tally.seals ≡ 16
     pub accepted : Accepted table (block_key b) b.tally
 
-  pub record Live-ledger (view : ℕ) (g : Ledger) : Type 0 where
-    pub blocks : (b : Block) → On b g.shelf → Live-block view b
+  pub record LiveLedger (view : ℕ) (g : Ledger) : Type 0 where
+    pub blocks : (b : Block) → On b g.shelf → LiveBlock view b
     pub counted : (b : Block) → On b g.shelf → is_quorum n b.tally.set ≡ true → b.body.view ≤ g.top.block.view
-    pub head-below : (g.head.view < view) ⊎ (g.head.view ≡ 0)
+    pub head_below : (g.head.view < view) ⊎ (g.head.view ≡ 0)
     pub top_below : g.top.block.view ≤ view
     pub stands : certificate_stands table n g.top ≡ true
 
-  pub fresh-live : (view : ℕ) (b : Block) → b.tally ≡ no_signers → b.body.view ≤ view → Led (block_key b) → Live-block view b
-  fresh-live view b e l d = record {
+  pub fresh_live : (view : ℕ) (b : Block) → b.tally ≡ no_signers → b.body.view ≤ view → Led (block_key b) → LiveBlock view b
+  fresh_live view b e l d = record {
     reached = l;
     led = d;
     sixteen = ap (λ (t : Signers). length t.seals) e;
@@ -97,33 +97,33 @@ module _ (table : Table) (n : ℕ) (Led : Key → Type 0) where
 
   -- ---- changes of a ledger
 
-  pub empty-live : (slots view : ℕ) → Live-ledger view (empty_ledger slots)
-  empty-live slots view = record {
+  pub empty_live : (slots view : ℕ) → LiveLedger view (empty_ledger slots)
+  empty_live slots view = record {
     blocks = λ b o. absurd (none_on slots b o);
     counted = λ b o. absurd (none_on slots b o);
-    head-below = inr refl;
+    head_below = inr refl;
     top_below = omega arith;
     stands = refl;
   }
 
-  pub placed-live : (view : ℕ) (b : Block) (g : Ledger) → Live-block view b → is_quorum n b.tally.set ≡ false → Live-ledger view g
-      → Live-ledger view (placed b g)
-  placed-live view b g lb q l = record {
-    blocks = λ c o. ⊎_elim (λ e. subst (Live-block view) (sym e) lb) (l.blocks c) (on_put g.shelf b c o);
+  pub placed_live : (view : ℕ) (b : Block) (g : Ledger) → LiveBlock view b → is_quorum n b.tally.set ≡ false → LiveLedger view g
+      → LiveLedger view (placed b g)
+  placed_live view b g lb q l = record {
+    blocks = λ c o. ⊎_elim (λ e. subst (LiveBlock view) (sym e) lb) (l.blocks c) (on_put g.shelf b c o);
     counted = λ c o h. ⊎_elim
         (λ e. absurd (both_ways _ q (sym (ap (λ (x : Block). is_quorum n x.tally.set) e) ∙ h)))
         (λ p. l.counted c p h) (on_put g.shelf b c o);
-    head-below = l.head-below;
+    head_below = l.head_below;
     top_below = l.top_below;
     stands = l.stands;
   }
 
-  pub with-top-live : (view : ℕ) (c : Certificate) (g : Ledger) → c.block.view ≤ view → certificate_stands table n c ≡ true
-      → Live-ledger view g → Live-ledger view (with_top c g)
-  with-top-live view c g lc st l = record {
+  pub with_top_live : (view : ℕ) (c : Certificate) (g : Ledger) → c.block.view ≤ view → certificate_stands table n c ≡ true
+      → LiveLedger view g → LiveLedger view (with_top c g)
+  with_top_live view c g lc st l = record {
     blocks = l.blocks;
     counted = λ b o h. omega (arith, l.counted b o h, (higher_above g.top c).0);
-    head-below = l.head-below;
+    head_below = l.head_below;
     top_below = higher_one (λ x. x.block.view ≤ view) g.top c l.top_below lc;
     stands = higher_one (λ x. certificate_stands table n x ≡ true) g.top c l.stands st;
   }
@@ -133,10 +133,10 @@ module _ (table : Table) (n : ℕ) (Led : Key → Type 0) where
   abbrev after : ℕ → List ℕ → Block → Block
   after voter seal b = with_tally b (joined voter seal b.tally)
 
-  joined-live : (view voter : ℕ) (seal : List ℕ) (b : Block) → voter < 16 → table voter (votes_for (block_key b)) seal ≡ true
-      → Live-block view b → Live-block view (after voter seal b)
-  joined-live view voter seal b lv ok l =
-      cond_both (signed b.tally.set voter) b.tally _ (λ (t : Signers). Live-block view (with_tally b t))
+  joined_live : (view voter : ℕ) (seal : List ℕ) (b : Block) → voter < 16 → table voter (votes_for (block_key b)) seal ≡ true
+      → LiveBlock view b → LiveBlock view (after voter seal b)
+  joined_live view voter seal b lv ok l =
+      cond_both (signed b.tally.set voter) b.tally _ (λ (t : Signers). LiveBlock view (with_tally b t))
       (λ _. record { reached = l.reached; led = l.led; sixteen = l.sixteen; accepted = l.accepted })
       (λ _. record {
         reached = l.reached;
@@ -163,49 +163,49 @@ module _ (table : Table) (n : ℕ) (Led : Key → Type 0) where
               (⊎_elim (λ k. holds_signed b.tally.set m k) (λ e. absurd (ne e)) (holds_entered b.tally.set voter m (signed_holds _ m h)))
 
   -- the top certificate after a vote, by whether it brought a quorum
-  top-ways : (P : Certificate → Type 0) (top : Certificate) (b : Block) (t : Signers) → P top
+  top_ways : (P : Certificate → Type 0) (top : Certificate) (b : Block) (t : Signers) → P top
       → (is_quorum n t.set ≡ true → P (record { block = block_key b; signers = t }))
       → P (top_after n top (block_key b) b.tally t)
-  top-ways P top b t p q =
+  top_ways P top b t p q =
       cond_both (completes n b.tally t) _ top P
       (λ e. higher_one P top _ p (q (and_parts (not (is_quorum n b.tally.set)) (is_quorum n t.set) e).1)) (λ _. p)
 
   -- a tally with a quorum is no younger than the top certificate
-  top-covers : (top : Certificate) (b : Block) (t : Signers) → (is_quorum n b.tally.set ≡ true → b.body.view ≤ top.block.view)
+  top_covers : (top : Certificate) (b : Block) (t : Signers) → (is_quorum n b.tally.set ≡ true → b.body.view ≤ top.block.view)
       → is_quorum n t.set ≡ true → b.body.view ≤ (top_after n top (block_key b) b.tally t).block.view
-  top-covers top b t old q =
+  top_covers top b t old q =
       cond_both (completes n b.tally t) _ top (λ (c : Certificate). b.body.view ≤ c.block.view)
       (λ e. (higher_above top (record { block = block_key b; signers = t })).1)
       (λ e. ⊎_elim (λ f. old (not-false _ f)) (λ f. absurd (both_ways _ f q)) (and_cases (not (is_quorum n b.tally.set)) (is_quorum n t.set) e))
 
-  pub entered-live : (view : ℕ) (k : Key) (voter : ℕ) (seal : List ℕ) (b : Block) (g : Ledger) → held k g.shelf ≡ Some b → voter < 16
-      → table voter (votes_for k) seal ≡ true → Live-ledger view g → Live-ledger view (entered n k voter seal b g)
-  entered-live view k voter seal b g h lv ok l =
+  pub entered_live : (view : ℕ) (k : Key) (voter : ℕ) (seal : List ℕ) (b : Block) (g : Ledger) → held k g.shelf ≡ Some b → voter < 16
+      → table voter (votes_for k) seal ≡ true → LiveLedger view g → LiveLedger view (entered n k voter seal b g)
+  entered_live view k voter seal b g h lv ok l =
       let w = held_on k g.shelf b h in
       let lb = l.blocks b w.0 in
-      let new = joined-live view voter seal b lv (ap (λ (j : Key). table voter (votes_for j) seal) w.1 ∙ ok) lb in
+      let new = joined_live view voter seal b lv (ap (λ (j : Key). table voter (votes_for j) seal) w.1 ∙ ok) lb in
       let t = joined voter seal b.tally in
       record {
-        blocks = λ c o. ⊎_elim (λ e. subst (Live-block view) (sym e) new) (l.blocks c) (on_replaced k (after voter seal b) c g.shelf o);
+        blocks = λ c o. ⊎_elim (λ e. subst (LiveBlock view) (sym e) new) (l.blocks c) (on_replaced k (after voter seal b) c g.shelf o);
         counted = λ c o q. ⊎_elim
             (λ e. subst (λ (x : Block). is_quorum n x.tally.set ≡ true → x.body.view ≤ (top_after n g.top (block_key b) b.tally t).block.view) (sym e)
-            (top-covers g.top b t (l.counted b w.0)) q)
+            (top_covers g.top b t (l.counted b w.0)) q)
             (λ p. omega (arith, l.counted c p q, top_rises n g.top b t)) (on_replaced k (after voter seal b) c g.shelf o);
-        head-below = l.head-below;
-        top_below = top-ways (λ x. x.block.view ≤ view) g.top b t l.top_below (λ _. lb.reached);
-        stands = top-ways (λ x. certificate_stands table n x ≡ true) g.top b t l.stands
+        head_below = l.head_below;
+        top_below = top_ways (λ x. x.block.view ≤ view) g.top b t l.top_below (λ _. lb.reached);
+        stands = top_ways (λ x. certificate_stands table n x ≡ true) g.top b t l.stands
             (λ q. or_right (eqb b.body.view 0) _ (and_from (is_quorum n t.set) _ q (accepted_below table (block_key b) t new.accepted 16 (omega arith))));
       }
 
   -- ---- settling
 
-  pub settled-live : (view : ℕ) (g : Ledger) → Live-ledger view g → Live-ledger view (settle n g).ledger
-  settled-live view g l =
-      settle_ways n g (λ (t : Settled). Live-ledger view t.ledger) (λ _. l)
+  pub settled_live : (view : ℕ) (g : Ledger) → LiveLedger view g → LiveLedger view (settle n g).ledger
+  settled_live view g l =
+      settle_ways n g (λ (t : Settled). LiveLedger view t.ledger) (λ _. l)
       (λ b e r. record {
         blocks = λ c o. l.blocks c (on_swept b.body.view g.shelf c o).0;
         counted = λ c o q. l.counted c (on_swept b.body.view g.shelf c o).0 q;
-        head-below = inl (omega (arith, (l.blocks r.child r.confirmed.on).reached, r.confirmed.next));
+        head_below = inl (omega (arith, (l.blocks r.child r.confirmed.on).reached, r.confirmed.next));
         top_below = l.top_below;
         stands = l.stands;
       })
@@ -213,8 +213,8 @@ module _ (table : Table) (n : ℕ) (Led : Key → Type 0) where
 -- ---- later views and more that was led
 
 module _ (table : Table) (n : ℕ) (Led Led' : Key → Type 0) (more : (k : Key) → Led k → Led' k) where
-  pub later-live : (view view' : ℕ) (g : Ledger) → view ≤ view' → Live-ledger table n Led view g → Live-ledger table n Led' view' g
-  later-live view view' g le l = record {
+  pub later_live : (view view' : ℕ) (g : Ledger) → view ≤ view' → LiveLedger table n Led view g → LiveLedger table n Led' view' g
+  later_live view view' g le l = record {
     blocks = λ b o. let x = l.blocks b o in record {
       reached = omega (arith, x.reached, le);
       led = more (block_key b) x.led;
@@ -222,7 +222,7 @@ module _ (table : Table) (n : ℕ) (Led Led' : Key → Type 0) (more : (k : Key)
       accepted = x.accepted;
     };
     counted = l.counted;
-    head-below = ⊎_elim (λ h. inl (omega (arith, h, le))) (λ h. inr h) l.head-below;
+    head_below = ⊎_elim (λ h. inl (omega (arith, h, le))) (λ h. inr h) l.head_below;
     top_below = omega (arith, l.top_below, le);
     stands = l.stands;
   }

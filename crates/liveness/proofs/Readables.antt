@@ -50,50 +50,50 @@ use Rattle.liveness.proofs.Ways.{tick_ways, propose_ways, hear_ways, taken_up, t
 
 module _ (n : ℕ) where
   -- a certificate that can be sent; of view 0 it is the origin's
-  pub record Top-fits (c : Certificate) : Type 0 where
+  pub record TopFits (c : Certificate) : Type 0 where
     pub signers : Fit n c.signers
-    pub zero-view : c.block.view ≡ 0 → c ≡ origin_certificate
+    pub zero_view : c.block.view ≡ 0 → c ≡ origin_certificate
 
-  pub record Fit-ledger (g : Ledger) : Type 0 where
+  pub record FitLedger (g : Ledger) : Type 0 where
     pub tallies : (b : Block) → On b g.shelf → Fit n b.tally
-    pub top : Top-fits g.top
+    pub top : TopFits g.top
 
-  empty-fits : (slots : ℕ) → Fit-ledger (empty_ledger slots)
-  empty-fits slots = record { tallies = λ b o. absurd (none_on slots b o); top = record { signers = nobody_fits n; zero-view = λ _. refl } }
+  empty_fits : (slots : ℕ) → FitLedger (empty_ledger slots)
+  empty_fits slots = record { tallies = λ b o. absurd (none_on slots b o); top = record { signers = nobody_fits n; zero_view = λ _. refl } }
 
-  higher-fits : (top c : Certificate) → Top-fits top → Fit n c.signers → Top-fits (higher_certificate top c)
-  higher-fits top c t f =
-      cond_both (ltb top.block.view c.block.view) c top Top-fits
-      (λ l. record { signers = f; zero-view = λ e. absurd (omega (arith, ltb-true _ _ l, e)) }) (λ _. t)
+  higher_fits : (top c : Certificate) → TopFits top → Fit n c.signers → TopFits (higher_certificate top c)
+  higher_fits top c t f =
+      cond_both (ltb top.block.view c.block.view) c top TopFits
+      (λ l. record { signers = f; zero_view = λ e. absurd (omega (arith, ltb-true _ _ l, e)) }) (λ _. t)
 
-  placed-fits : (b : Block) (g : Ledger) → Fit n b.tally → Fit-ledger g → Fit-ledger (placed b g)
-  placed-fits b g f l = record {
+  placed_fits : (b : Block) (g : Ledger) → Fit n b.tally → FitLedger g → FitLedger (placed b g)
+  placed_fits b g f l = record {
     tallies = λ d o. ⊎_elim (λ e. subst (λ (x : Block). Fit n x.tally) (sym e) f) (l.tallies d) (on_put g.shelf b d o);
     top = l.top;
   }
 
-  with-top-fits : (c : Certificate) (g : Ledger) → Fit n c.signers → Fit-ledger g → Fit-ledger (with_top c g)
-  with-top-fits c g f l = record { tallies = l.tallies; top = higher-fits g.top c l.top f }
+  with_top_fits : (c : Certificate) (g : Ledger) → Fit n c.signers → FitLedger g → FitLedger (with_top c g)
+  with_top_fits c g f l = record { tallies = l.tallies; top = higher_fits g.top c l.top f }
 
-  settled-fits : (g : Ledger) → Fit-ledger g → Fit-ledger (settle n g).ledger
-  settled-fits g l = record {
+  settled_fits : (g : Ledger) → FitLedger g → FitLedger (settle n g).ledger
+  settled_fits g l = record {
     tallies = λ b o. l.tallies b (settled_on n g b o);
-    top = subst Top-fits (sym (settled_top n g)) l.top;
+    top = subst TopFits (sym (settled_top n g)) l.top;
   }
 
-  entered-fits-in : (k : Key) (voter : ℕ) (seal : List ℕ) (b : Block) (g : Ledger) → held k g.shelf ≡ Some b → voter < n → n ≤ 16 → length seal ≡ 16
-      → Fit-ledger g → Fit-ledger (enter n k voter seal g)
-  entered-fits-in k voter seal b g h lv ln e l =
+  entered_fits_in : (k : Key) (voter : ℕ) (seal : List ℕ) (b : Block) (g : Ledger) → held k g.shelf ≡ Some b → voter < n → n ≤ 16 → length seal ≡ 16
+      → FitLedger g → FitLedger (enter n k voter seal g)
+  entered_fits_in k voter seal b g h lv ln e l =
       let old = l.tallies b (held_on k g.shelf b h).0 in
       let t = joined voter seal b.tally in
       let fits : Fit n (joined voter seal b.tally) =
       cond_both (signed b.tally.set voter) b.tally _ (Fit n) (λ _. old) (λ _. entered_fits n b.tally voter seal lv ln e old) in
-      subst Fit-ledger (sym (enter_held n k voter seal b g h))
+      subst FitLedger (sym (enter_held n k voter seal b g h))
       (record {
         tallies = λ d o. ⊎_elim (λ q. subst (λ (x : Block). Fit n x.tally) (sym q) fits) (l.tallies d)
             (on_replaced k (with_tally b (joined voter seal b.tally)) d g.shelf o);
-        top = cond_both (completes n b.tally (joined voter seal b.tally)) _ g.top Top-fits
-            (λ _. higher-fits g.top (record { block = block_key b; signers = joined voter seal b.tally }) l.top fits) (λ _. l.top);
+        top = cond_both (completes n b.tally (joined voter seal b.tally)) _ g.top TopFits
+            (λ _. higher_fits g.top (record { block = block_key b; signers = joined voter seal b.tally }) l.top fits) (λ _. l.top);
       })
 
 -- ---- states
@@ -101,46 +101,46 @@ module _ (n : ℕ) where
 -- a tick of four bytes, a ledger that fits
 pub record Fits (s : State) : Type 0 where
   pub tick : s.tick < 2 ^ 32
-  pub ledger : Fit-ledger s.seat.n s.ledger
+  pub ledger : FitLedger s.seat.n s.ledger
 
 step_fits : (table : Table) (l : Line) (s : State) → Typed l → s.seat.n ≤ 16 → s.seat.own < s.seat.n → Fits s
     → (call : Call) → TypedCall call → Fits (step table l.seal s call).state
 unfolding vote_for propose_body count_vote
-step_fits table l s typed sixteen own f (opening slots) c = record { tick = omega arith; ledger = empty-fits s.seat.n slots }
+step_fits table l s typed sixteen own f (opening slots) c = record { tick = omega arith; ledger = empty_fits s.seat.n slots }
 step_fits table l s typed sixteen own f (ticking t) c =
     tick_ways l.seal s t (λ (o : Outcome). Fits o.state) (λ r _. f) (λ u. record { tick = c; ledger = f.ledger })
     (λ u. record { tick = c; ledger = f.ledger })
     (λ b w. record {
       tick = c;
-      ledger = settled-fits s.seat.n _ (entered-fits-in s.seat.n (block_key b) s.seat.own l.seal b s.ledger
+      ledger = settled_fits s.seat.n _ (entered_fits_in s.seat.n (block_key b) s.seat.own l.seal b s.ledger
           (candidate_held (clocked s t) b w.choice) own sixteen typed.sixteen f.ledger);
     })
 step_fits table l s typed sixteen own f (proposing owed orders space) c =
     propose_ways l.seal s owed orders space (λ (o : Outcome). Fits o.state) (λ r. f)
     (λ w. record {
       tick = f.tick;
-      ledger = settled-fits s.seat.n (placed_if_new (body_on_top s owed orders) s.ledger)
-          (cond_both (is_held (body_key (body_on_top s owed orders)) s.ledger.shelf) s.ledger _ (Fit-ledger s.seat.n)
-          (λ _. f.ledger) (λ _. placed-fits s.seat.n _ s.ledger (nobody_fits s.seat.n) f.ledger));
+      ledger = settled_fits s.seat.n (placed_if_new (body_on_top s owed orders) s.ledger)
+          (cond_both (is_held (body_key (body_on_top s owed orders)) s.ledger.shelf) s.ledger _ (FitLedger s.seat.n)
+          (λ _. f.ledger) (λ _. placed_fits s.seat.n _ s.ledger (nobody_fits s.seat.n) f.ledger));
     })
 step_fits table l s typed sixteen own f (passing owed) c = f
 step_fits table l s typed sixteen own f (hearing bytes) c =
     hear_ways table s bytes (λ (o : Outcome). Fits o.state) (λ r. f) f
     (λ p w.
-    let g : Fit-ledger s.seat.n (taken_up p s) = settled-fits s.seat.n _ (with-top-fits s.seat.n p.certificate _
+    let g : FitLedger s.seat.n (taken_up p s) = settled_fits s.seat.n _ (with_top_fits s.seat.n p.certificate _
     (certificate_fits s.seat.n bytes p c w.reads (read_proposal s.seat.n bytes p w.reads).signers_below)
-    (placed-fits s.seat.n _ s.ledger (nobody_fits s.seat.n) f.ledger)) in
+    (placed_fits s.seat.n _ s.ledger (nobody_fits s.seat.n) f.ledger)) in
     take_up_ways p s Fits (λ _. record { tick = f.tick; ledger = g }) (λ _. record { tick = f.tick; ledger = g }))
     (λ x b w. record {
       tick = f.tick;
-      ledger = settled-fits s.seat.n _ (entered-fits-in s.seat.n x.block x.voter x.seal b s.ledger w.holds
+      ledger = settled_fits s.seat.n _ (entered_fits_in s.seat.n x.block x.voter x.seal b s.ledger w.holds
           (read_vote s.seat.n bytes x w.reads).voter_below sixteen (vote_seal s.seat.n bytes x w.reads) f.ledger);
     })
 
 pub fits_run : (pit : Pit) (i : ℕ) → i < pit.n → (ls : Sheet) (s : State) → state_at pit i ls ≡ Some s → SoundSheet pit ls → Fits s
 fits_run pit i below =
     along pit i (λ ls s. SoundSheet pit ls → Fits s)
-    (λ l ls slots e good. record { tick = omega arith; ledger = empty-fits pit.n slots })
+    (λ l ls slots e good. record { tick = omega arith; ledger = empty_fits pit.n slots })
     (λ l ls s h good. h (sound_earlier pit (l ∷ []) ls good))
     (λ l ls s e k h good.
     let q = seats pit i ls s k in
@@ -210,9 +210,9 @@ module _ (pit : Pit) (sheet : Sheet) (good : SoundSheet pit sheet) where
         and_from (leb 1 w.b.body.view) (ltb s.seat.own pit.n) (le-leb _ _ (omega (arith, g.above))) (lt-ltb _ _ (omega (arith, q.1, sound.0))),
       )
 
-  read-votes : (p : Spot sheet) (x : Vote) → answer_in (did pit p) ≡ Some (vote x) → read pit.n (vote_bytes x) ≡ Ok (message.Vote x)
+  read_votes : (p : Spot sheet) (x : Vote) → answer_in (did pit p) ≡ Some (vote x) → read pit.n (vote_bytes x) ≡ Ok (message.Vote x)
   unfolding message_bytes
-  read-votes p x e = message_forth pit.n (message.Vote x) (at (state_at pit p.line.console p.earlier) refl e)
+  read_votes p x e = message_forth pit.n (message.Vote x) (at (state_at pit p.line.console p.earlier) refl e)
     where
       first : (c : Call) → answer_in (first_opening pit p.line.console c) ≡ Some (vote x) → ⊥
       first (opening slots) h = other_kind opens (vote x) refl (same_some opens (vote x) h)
@@ -229,17 +229,17 @@ module _ (pit : Pit) (sheet : Sheet) (good : SoundSheet pit sheet) where
 
   -- ---- proposals
 
-  proposal-fits-out : (p : Spot sheet) (s : State) (owed : Owed) (orders : List Order) (space : ℕ) → state_at pit p.line.console p.earlier ≡ Some s
+  proposal_fits_out : (p : Spot sheet) (s : State) (owed : Owed) (orders : List Order) (space : ℕ) → state_at pit p.line.console p.earlier ≡ Some s
       → p.line.call ≡ proposing owed orders space → ProposeStands s owed orders space
       → WellFormed pit.n (message.Proposal (record { body = body_on_top s owed orders; certificate = s.ledger.top; seal = p.line.seal }))
   unfolding proposal_stands
-  proposal-fits-out p s owed orders space h call w =
+  proposal_fits_out p s owed orders space h call w =
       let i = p.line.console in
       let sound = good.lines p in
       let typed : TypedCall (proposing owed orders space) = subst TypedCall call (good.typed p).call in
       let q = seats pit i p.earlier s h in
       let g = (((sound_run pit p.earlier (before p)).console i sound).open_state s h).stands.ledger in
-      let f = subst (λ (n : ℕ). Fit-ledger n s.ledger) q.0 (fits_run pit i sound.0 p.earlier s h (before p)).ledger in
+      let f = subst (λ (n : ℕ). FitLedger n s.ledger) q.0 (fits_run pit i sound.0 p.earlier s h (before p)).ledger in
       let top = s.ledger.top in
       let key : KeyFits s.ledger.top.block = record {
         view = omega (arith, w.above_top, typed.0);
@@ -262,31 +262,31 @@ module _ (pit : Pit) (sheet : Sheet) (good : SoundSheet pit sheet) where
           seal = (good.typed p).sixteen;
         },
         and_from _ _ (and_from _ _ (ap all_well_formed same ∙ o.1) (lt-ltb _ _ w.above_top))
-            (and_from _ _ (and_from (ltb top.signers.set (2 ^ pit.n)) _ (lt-ltb _ _ f.top.signers.below) (origin-or top f.top.zero-view))
+            (and_from _ _ (and_from (ltb top.signers.set (2 ^ pit.n)) _ (lt-ltb _ _ f.top.signers.below) (origin_or top f.top.zero_view))
             (key_itself s.ledger.top.block)),
       )
     where
-      origin-or : (c : Certificate) → (c.block.view ≡ 0 → c ≡ origin_certificate)
+      origin_or : (c : Certificate) → (c.block.view ≡ 0 → c ≡ origin_certificate)
           → (not (eqb c.block.view 0) || (same_key c.block origin && eqb c.signers.set 0)) ≡ true
-      origin-or c z = ⊎_elim
+      origin_or c z = ⊎_elim
           (λ e. let o : c ≡ origin_certificate = z (eqb-true _ _ e) in
           or_right (not (eqb c.block.view 0)) _ (subst (λ (y : Certificate). (same_key y.block origin && eqb y.signers.set 0) ≡ true) (sym o) refl))
           (λ e. or_left (not (eqb c.block.view 0)) _ (ap not e))
           (cases_Bool (eqb c.block.view 0))
 
-  read-proposals : (p : Spot sheet) (s : State) (owed : Owed) (orders : List Order) (space : ℕ) (body : Body)
+  read_proposals : (p : Spot sheet) (s : State) (owed : Owed) (orders : List Order) (space : ℕ) (body : Body)
       → state_at pit p.line.console p.earlier ≡ Some s → p.line.call ≡ proposing owed orders space → shown_in (did pit p) ≡ Some body
       → read pit.n (proposal_bytes (record { body = body; certificate = s.ledger.top; seal = p.line.seal }))
       ≡ Ok (message.Proposal (record { body = body; certificate = s.ledger.top; seal = p.line.seal }))
   unfolding message_bytes
-  read-proposals p s owed orders space body h call shows =
+  read_proposals p s owed orders space body h call shows =
       let i = p.line.console in
       let d = done_open pit i p.line p.earlier s refl h in
       let e : stepped pit i p.line s ≡ propose p.line.seal s owed orders space = ap (step (pit.table i) p.line.seal s) call in
       let f = shows_proposal p.line.seal s owed orders space body (ap (λ (o : Outcome). o.shown) (sym e) ∙ sym (ap shown_in d) ∙ shows) in
       message_forth pit.n (message.Proposal (record { body = body; certificate = s.ledger.top; seal = p.line.seal }))
       (subst (λ (b : Body). WellFormed pit.n (message.Proposal (record { body = b; certificate = s.ledger.top; seal = p.line.seal }))) f.1
-      (proposal-fits-out p s owed orders space h call f.0))
+      (proposal_fits_out p s owed orders space h call f.0))
 
   pub readable : Readable pit sheet
-  readable = record { votes = read-votes; proposals = read-proposals }
+  readable = record { votes = read_votes; proposals = read_proposals }

@@ -24,8 +24,8 @@ use Rattle.sheets.specs.Sound.{Sealed, Spends, SoundPit, SoundSheet}
 use Rattle.safety.proofs.Histories.{spot_later, newest, sound_earlier}
 use Rattle.safety.proofs.Reading.{read_proposal, read_vote}
 use Rattle.liveness.proofs.Growth.{step_on}
-use Rattle.liveness.proofs.Live.{later-live}
-use Rattle.liveness.proofs.States.{Led, Live, opened-live, saved-live, clocked-live, voted-live, propose-live, take-up-live, candidate_held}
+use Rattle.liveness.proofs.Live.{later_live}
+use Rattle.liveness.proofs.States.{Led, Live, opened_live, saved_live, clocked_live, voted_live, propose_live, take_up_live, candidate_held}
 use Rattle.liveness.proofs.Ways.{tick_ways, propose_ways, Voiced, hear_ways, other_kind}
 use Rattle.liveness.proofs.Induct.{along, stepped, done_open}
 
@@ -43,7 +43,7 @@ lifted pit i l ls s v = record {
   own = v.own;
   slots = v.slots;
   clock = v.clock;
-  ledger = later-live (pit.table i) s.seat.n (Led pit ls) (Led pit (l ∷ ls)) (λ k f sound. sealed_on pit (l ∷ []) ls _ _ (f sound)) s.view
+  ledger = later_live (pit.table i) s.seat.n (Led pit ls) (Led pit (l ∷ ls)) (λ k f sound. sealed_on pit (l ∷ []) ls _ _ (f sound)) s.view
       s.view s.ledger (omega arith) v.ledger;
   chosen = v.chosen;
   candidate_led = λ name e sound. sealed_on pit (l ∷ []) ls _ _ (v.candidate_led name e sound);
@@ -66,63 +66,63 @@ module _ (pit : Pit) (good : SoundPit pit) (i : ℕ) (below : i < pit.n) (l : Li
   some_consoles : (s : State) → Live pit i (l ∷ ls) s → 1 ≤ s.seat.n
   some_consoles s v = omega (arith, v.size, good.four)
 
-  tick-kept : (s : State) (t : ℕ) → Live pit i (l ∷ ls) s → Kept (tick l.seal s t)
+  tick_kept : (s : State) (t : ℕ) → Live pit i (l ∷ ls) s → Kept (tick l.seal s t)
   unfolding vote_for
-  tick-kept s t v =
+  tick_kept s t v =
       tick_ways l.seal s t Kept (λ r e f. v)
-      (λ u f. saved-live pit i (l ∷ ls) (clocked s t) _ (clocked-live pit i (l ∷ ls) s t u.taken.later v))
-      (λ u f. clocked-live pit i (l ∷ ls) s t u.later v)
+      (λ u f. saved_live pit i (l ∷ ls) (clocked s t) _ (clocked_live pit i (l ∷ ls) s t u.taken.later v))
+      (λ u f. clocked_live pit i (l ∷ ls) s t u.later v)
       (λ b c f.
-      let moved = clocked-live pit i (l ∷ ls) s t c.taken.later v in
+      let moved = clocked_live pit i (l ∷ ls) s t c.taken.later v in
       let ok : pit.table i s.seat.own (votes_for (block_key b)) l.seal ≡ true =
       subst (λ (j : ℕ). pit.table i j (votes_for (block_key b)) l.seal ≡ true) (sym v.own) (f.sealing (votes_for (block_key b)) refl) in
-      voted-live pit i (l ∷ ls) (saved (clocked s t) (marks_voted s.marks (view_of t) b.body.parent.view)) (block_key b) s.seat.own l.seal b
+      voted_live pit i (l ∷ ls) (saved (clocked s t) (marks_voted s.marks (view_of t) b.body.parent.view)) (block_key b) s.seat.own l.seal b
       (candidate_held (clocked s t) b c.choice) (omega (arith, v.own, below, good.sixteen)) ok
-      (saved-live pit i (l ∷ ls) (clocked s t) _ moved))
+      (saved_live pit i (l ∷ ls) (clocked s t) _ moved))
 
-  propose-kept : (s : State) (owed : Owed) (orders : List Order) (space : ℕ) → (owed.console ≡ i → leader pit.n owed.view ≡ i)
+  propose_kept : (s : State) (owed : Owed) (orders : List Order) (space : ℕ) → (owed.console ≡ i → leader pit.n owed.view ≡ i)
       → Live pit i (l ∷ ls) s → Kept (propose l.seal s owed orders space)
   unfolding propose_body
-  propose-kept s owed orders space leads v =
+  propose_kept s owed orders space leads v =
       propose_ways l.seal s owed orders space Kept (λ r f. v)
       (λ w f.
       let mine = leads (w.own_turn ∙ v.own) in
-      propose-live pit i (l ∷ ls) s (body_on_top s owed orders) l.seal (some_consoles s v) (omega (arith, v.clock, w.at_tick))
-      (λ sound. subst (λ (j : ℕ). Sealed pit (l ∷ ls) j (proposes (body_key (body_on_top s owed orders)))) (sym mine) (sealed-here f))
+      propose_live pit i (l ∷ ls) s (body_on_top s owed orders) l.seal (some_consoles s v) (omega (arith, v.clock, w.at_tick))
+      (λ sound. subst (λ (j : ℕ). Sealed pit (l ∷ ls) j (proposes (body_key (body_on_top s owed orders)))) (sym mine) (sealed_here f))
       v)
     where
-      sealed-here : Facts pit i l ls (propose_body (body_on_top s owed orders) l.seal s) → Sealed pit (l ∷ ls) i (proposes (body_key (body_on_top s owed orders)))
-      sealed-here f = f.noted (proposes (body_key (body_on_top s owed orders))) refl
+      sealed_here : Facts pit i l ls (propose_body (body_on_top s owed orders) l.seal s) → Sealed pit (l ∷ ls) i (proposes (body_key (body_on_top s owed orders)))
+      sealed_here f = f.noted (proposes (body_key (body_on_top s owed orders))) refl
 
-  hear-kept : (s : State) (bytes : List ℕ) → Live pit i (l ∷ ls) s → Kept (hear (pit.table i) s bytes)
+  hear_kept : (s : State) (bytes : List ℕ) → Live pit i (l ∷ ls) s → Kept (hear (pit.table i) s bytes)
   unfolding take_up count_vote
-  hear-kept s bytes v =
+  hear_kept s bytes v =
       hear_ways (pit.table i) s bytes Kept (λ r f. v) (λ f. v)
       (λ p w f.
       let r = read_proposal s.seat.n bytes p w.reads in
-      take-up-live pit i (l ∷ ls) s p (some_consoles s v) w.good.not_ahead
+      take_up_live pit i (l ∷ ls) s p (some_consoles s v) w.good.not_ahead
       (omega (arith, r.above, ap (λ (k : Key). k.view) r.names_parent, w.good.not_ahead)) w.good.certificate
-      (λ sound. sealed_on pit (l ∷ []) ls _ _ (relied-on p f sound)) v)
+      (λ sound. sealed_on pit (l ∷ []) ls _ _ (relied_on p f sound)) v)
       (λ x b w f.
       counted x b w)
     where
-      relied-on : (p : Proposal) → Facts pit i l ls (take_up p s)
+      relied_on : (p : Proposal) → Facts pit i l ls (take_up p s)
           → Sound pit (leader pit.n p.body.view) → Sealed pit ls (leader pit.n p.body.view) (proposes (body_key p.body))
-      relied-on p f sound =
+      relied_on p f sound =
           subst (λ (n : ℕ). Sound pit (leader n p.body.view) → Sealed pit ls (leader n p.body.view) (proposes (body_key p.body))) v.size
           (λ h. f.relied _ (Memᴰ.head refl) h) sound
 
       counted : (x : Vote) (b : Block) → Voiced (pit.table i) s bytes x b → Live pit i (l ∷ ls) (count_vote x s).state
       counted x b w =
           let r = read_vote s.seat.n bytes x w.reads in
-          voted-live pit i (l ∷ ls) s x.block x.voter x.seal b w.holds (omega (arith, r.voter_below, v.size, good.sixteen)) w.seal v
+          voted_live pit i (l ∷ ls) s x.block x.voter x.seal b w.holds (omega (arith, r.voter_below, v.size, good.sixteen)) w.seal v
 
   pub step_kept : (s : State) (call : Call) → Leads pit i call → Live pit i ls s → Kept (step (pit.table i) l.seal s call)
-  step_kept s (opening slots) leads v = λ f. opened-live pit i (l ∷ ls) (seat_over s.seat slots) s.store v.size v.own
-  step_kept s (ticking t) leads v = tick-kept s t (lifted pit i l ls s v)
-  step_kept s (proposing owed orders space) leads v = propose-kept s owed orders space (leads owed refl) (lifted pit i l ls s v)
+  step_kept s (opening slots) leads v = λ f. opened_live pit i (l ∷ ls) (seat_over s.seat slots) s.store v.size v.own
+  step_kept s (ticking t) leads v = tick_kept s t (lifted pit i l ls s v)
+  step_kept s (proposing owed orders space) leads v = propose_kept s owed orders space (leads owed refl) (lifted pit i l ls s v)
   step_kept s (passing owed) leads v = λ f. lifted pit i l ls s v
-  step_kept s (hearing bytes) leads v = hear-kept s bytes (lifted pit i l ls s v)
+  step_kept s (hearing bytes) leads v = hear_kept s bytes (lifted pit i l ls s v)
 
 -- ---- seats and turns
 
@@ -205,7 +205,7 @@ facts pit i l ls good e s h =
 pub live_run : (pit : Pit) (i : ℕ) (below : i < pit.n) (ls : Sheet) (s : State) → state_at pit i ls ≡ Some s → SoundSheet pit ls → Live pit i ls s
 live_run pit i below =
     along pit i (λ ls s. SoundSheet pit ls → Live pit i ls s)
-    (λ l ls slots e good. opened-live pit i (l ∷ ls) (record { n = pit.n; own = i; slots = slots }) no_marks refl refl)
+    (λ l ls slots e good. opened_live pit i (l ∷ ls) (record { n = pit.n; own = i; slots = slots }) no_marks refl refl)
     (λ l ls s h good. lifted pit i l ls s (h (sound_earlier pit (l ∷ []) ls good)))
     (λ l ls s e k h good.
     step_kept pit good.the_pit i below l ls s l.call (leads pit i l ls good e) (h (sound_earlier pit (l ∷ []) ls good)) (facts pit i l ls good e s k))

@@ -19,7 +19,7 @@ use Rattle.rules.specs.Options.{absent}
 use Rattle.sheets.specs.Sheet.{Pit, Sound, Sheet}
 use Rattle.sheets.specs.Sound.{Sealed}
 use Rattle.rules.specs.Shelves.{held_on, on_put, length-put, none_on}
-use Rattle.liveness.proofs.Live.{Live-ledger, fresh-live, empty-live, placed-live, with-top-live, entered-live, settled-live, later-live, nobody}
+use Rattle.liveness.proofs.Live.{LiveLedger, fresh_live, empty_live, placed_live, with_top_live, entered_live, settled_live, later_live, nobody}
 use Rattle.liveness.proofs.Lookup.{entered, enter_held, on_replaced, length-replaced}
 use Rattle.liveness.proofs.Settling.{settled_on, settled_length}
 use Rattle.liveness.proofs.Ways.{take_up_ways}
@@ -33,7 +33,7 @@ pub record Live (pit : Pit) (i : ℕ) (lines : Sheet) (s : State) : Type 0 where
   pub own : s.seat.own ≡ i
   pub slots : length s.ledger.shelf ≡ s.seat.slots
   pub clock : s.view ≡ view_of s.tick
-  pub ledger : Live-ledger (pit.table i) s.seat.n (Led pit lines) s.view s.ledger
+  pub ledger : LiveLedger (pit.table i) s.seat.n (Led pit lines) s.view s.ledger
   -- a held block of the console's view means that there is a candidate
   pub chosen : (b : Block) → On b s.ledger.shelf → b.body.view ≡ s.view → (name : List ℕ) × (s.candidate ≡ Some name)
   pub candidate_led : (name : List ℕ) → s.candidate ≡ Some name → Led pit lines (record { view = s.view; name = name })
@@ -59,19 +59,19 @@ which_candidate None name x e = inr (cc)
 which_candidate (Some c) name x e = inl e
 
 module _ (pit : Pit) (i : ℕ) (lines : Sheet) where
-  pub opened-live : (seat : Seat) (m : Marks) → seat.n ≡ pit.n → seat.own ≡ i → Live pit i lines (opened seat m)
-  opened-live seat m e f = record {
+  pub opened_live : (seat : Seat) (m : Marks) → seat.n ≡ pit.n → seat.own ≡ i → Live pit i lines (opened seat m)
+  opened_live seat m e f = record {
     size = e;
     own = f;
     slots = length-replicate seat.slots None;
     clock = refl;
-    ledger = empty-live (pit.table i) seat.n (Led pit lines) seat.slots 0;
+    ledger = empty_live (pit.table i) seat.n (Led pit lines) seat.slots 0;
     chosen = λ b o. absurd (none_on seat.slots b o);
     candidate_led = λ name e. absurd (let z : ◌≡◌ {A = ℕ} 0 1 = cc in omega arith);
   }
 
-  pub saved-live : (s : State) (m : Marks) → Live pit i lines s → Live pit i lines (saved s m)
-  saved-live s m l = record {
+  pub saved_live : (s : State) (m : Marks) → Live pit i lines s → Live pit i lines (saved s m)
+  saved_live s m l = record {
     size = l.size;
     own = l.own;
     slots = l.slots;
@@ -81,13 +81,13 @@ module _ (pit : Pit) (i : ℕ) (lines : Sheet) where
     candidate_led = l.candidate_led;
   }
 
-  pub clocked-live : (s : State) (t : ℕ) → s.tick < t → Live pit i lines s → Live pit i lines (clocked s t)
-  clocked-live s t lt l = record {
+  pub clocked_live : (s : State) (t : ℕ) → s.tick < t → Live pit i lines s → Live pit i lines (clocked s t)
+  clocked_live s t lt l = record {
     size = l.size;
     own = l.own;
     slots = l.slots;
     clock = refl;
-    ledger = later-live (pit.table i) s.seat.n (Led pit lines) (Led pit lines) (λ k x. x) s.view (view_of t) s.ledger rises l.ledger;
+    ledger = later_live (pit.table i) s.seat.n (Led pit lines) (Led pit lines) (λ k x. x) s.view (view_of t) s.ledger rises l.ledger;
     chosen = λ b o e.
         cond_both (eqb (view_of t) s.view) s.candidate None (λ (c : Option (List ℕ)). (name : List ℕ) × (c ≡ Some name))
         (λ same. l.chosen b o (e ∙ eqb-true _ _ same))
@@ -103,11 +103,11 @@ module _ (pit : Pit) (i : ℕ) (lines : Sheet) where
       rises = omega (arith, l.clock, lt)
 
   -- a ledger with the same blocks but for their tallies
-  pub with-ledger-live : (s : State) (g : Ledger) → length g.shelf ≡ length s.ledger.shelf
-      → Live-ledger (pit.table i) s.seat.n (Led pit lines) s.view g
+  pub with_ledger_live : (s : State) (g : Ledger) → length g.shelf ≡ length s.ledger.shelf
+      → LiveLedger (pit.table i) s.seat.n (Led pit lines) s.view g
       → ((b : Block) → On b g.shelf → (c : Block) × On c s.ledger.shelf × (c.body.view ≡ b.body.view))
       → Live pit i lines s → Live pit i lines (with_ledger s g)
-  with-ledger-live s g e lg from l = record {
+  with_ledger_live s g e lg from l = record {
     size = l.size;
     own = l.own;
     slots = e ∙ l.slots;
@@ -118,14 +118,14 @@ module _ (pit : Pit) (i : ℕ) (lines : Sheet) where
   }
 
   -- a vote enters the held block's tally, and the console settles
-  pub voted-live : (s : State) (k : Key) (voter : ℕ) (seal : List ℕ) (b : Block) → held k s.ledger.shelf ≡ Some b → voter < 16
+  pub voted_live : (s : State) (k : Key) (voter : ℕ) (seal : List ℕ) (b : Block) → held k s.ledger.shelf ≡ Some b → voter < 16
       → pit.table i voter (votes_for k) seal ≡ true → Live pit i lines s
       → Live pit i lines (with_ledger s (settle s.seat.n (enter s.seat.n k voter seal s.ledger)).ledger)
-  voted-live s k voter seal b h lv ok l =
+  voted_live s k voter seal b h lv ok l =
       subst (λ (g : Ledger). Live pit i lines (with_ledger s (settle s.seat.n g).ledger)) (sym (enter_held n k voter seal b s.ledger h))
-      (with-ledger-live s (settle n g).ledger (settled_length n g ∙ length-replaced k _ s.ledger.shelf)
-      (settled-live (pit.table i) n (Led pit lines) s.view g
-      (entered-live (pit.table i) n (Led pit lines) s.view k voter seal b s.ledger h lv ok l.ledger))
+      (with_ledger_live s (settle n g).ledger (settled_length n g ∙ length-replaced k _ s.ledger.shelf)
+      (settled_live (pit.table i) n (Led pit lines) s.view g
+      (entered_live (pit.table i) n (Led pit lines) s.view k voter seal b s.ledger h lv ok l.ledger))
       (λ c o. from c (on_replaced k (with_tally b (joined voter seal b.tally)) c s.ledger.shelf (settled_on n g c o)))
       l)
     where
@@ -143,18 +143,18 @@ module _ (pit : Pit) (i : ℕ) (lines : Sheet) where
   -- a new block comes onto the shelf, and the console settles
   module _ (s : State) (body : Body) (g : Ledger)
       (len : length g.shelf ≡ length s.ledger.shelf)
-      (lg : Live-ledger (pit.table i) s.seat.n (Led pit lines) s.view g)
+      (lg : LiveLedger (pit.table i) s.seat.n (Led pit lines) s.view g)
       (from : (b : Block) → On b g.shelf → (b.body ≡ body) ⊎ On b s.ledger.shelf)
       (l : Live pit i lines s) where
     -- as the candidate, if it is of the console's view
-    pub candidate-live : body.view ≡ s.view → Led pit lines (body_key body)
+    pub candidate_live : body.view ≡ s.view → Led pit lines (body_key body)
         → Live pit i lines (with_candidate (with_ledger s (settle s.seat.n g).ledger) (body_name body))
-    candidate-live e led = record {
+    candidate_live e led = record {
       size = l.size;
       own = l.own;
       slots = settled_length s.seat.n g ∙ len ∙ l.slots;
       clock = l.clock;
-      ledger = settled-live (pit.table i) s.seat.n (Led pit lines) s.view g lg;
+      ledger = settled_live (pit.table i) s.seat.n (Led pit lines) s.view g lg;
       chosen = λ b o h. some_candidate s.candidate (body_name body);
       candidate_led = λ name h. ⊎_elim (l.candidate_led name)
           (λ f. subst (λ (k : Key). Led pit lines k) (λ j. record { view = e j; name = f j }) led)
@@ -162,38 +162,38 @@ module _ (pit : Pit) (i : ℕ) (lines : Sheet) where
     }
 
     -- and not, if it is of another
-    pub old-live : (body.view ≡ s.view → ⊥) → Live pit i lines (with_ledger s (settle s.seat.n g).ledger)
-    old-live ne = record {
+    pub old_live : (body.view ≡ s.view → ⊥) → Live pit i lines (with_ledger s (settle s.seat.n g).ledger)
+    old_live ne = record {
       size = l.size;
       own = l.own;
       slots = settled_length s.seat.n g ∙ len ∙ l.slots;
       clock = l.clock;
-      ledger = settled-live (pit.table i) s.seat.n (Led pit lines) s.view g lg;
+      ledger = settled_live (pit.table i) s.seat.n (Led pit lines) s.view g lg;
       chosen = λ b o h. ⊎_elim (λ e. absurd (ne (ap (λ (x : Body). x.view) (sym e) ∙ h))) (λ p. l.chosen b p h)
           (from b (settled_on s.seat.n g b o));
       candidate_led = l.candidate_led;
     }
 
-  pub propose-live : (s : State) (body : Body) (seal : List ℕ) → 1 ≤ s.seat.n → body.view ≡ s.view → Led pit lines (body_key body)
+  pub propose_live : (s : State) (body : Body) (seal : List ℕ) → 1 ≤ s.seat.n → body.view ≡ s.view → Led pit lines (body_key body)
       → Live pit i lines s → Live pit i lines (propose_body body seal s).state
   unfolding propose_body
-  propose-live s body seal ln e led l =
+  propose_live s body seal ln e led l =
       cond_both (is_held (body_key body) s.ledger.shelf) s.ledger (placed (fresh body (body_name body)) s.ledger)
       (λ (g : Ledger). Live pit i lines (with_candidate (with_ledger s (settle s.seat.n g).ledger) (body_name body)))
-      (λ _. candidate-live s body s.ledger refl l.ledger (λ b o. inr o) l e led)
-      (λ _. candidate-live s body (placed (fresh body (body_name body)) s.ledger) (length-put s.ledger.shelf _)
-      (placed-live (pit.table i) s.seat.n (Led pit lines) s.view (fresh body (body_name body)) s.ledger
-      (fresh-live (pit.table i) s.seat.n (Led pit lines) s.view (fresh body (body_name body)) refl (omega (arith, e)) led)
+      (λ _. candidate_live s body s.ledger refl l.ledger (λ b o. inr o) l e led)
+      (λ _. candidate_live s body (placed (fresh body (body_name body)) s.ledger) (length-put s.ledger.shelf _)
+      (placed_live (pit.table i) s.seat.n (Led pit lines) s.view (fresh body (body_name body)) s.ledger
+      (fresh_live (pit.table i) s.seat.n (Led pit lines) s.view (fresh body (body_name body)) refl (omega (arith, e)) led)
       (nobody s.seat.n ln) l.ledger)
       (λ b o. ⊎_elim (λ f. inl (ap (λ (x : Block). x.body) f)) (λ f. inr f) (on_put s.ledger.shelf _ b o)) l e led)
 
-  pub take-up-live : (s : State) (p : Proposal) → 1 ≤ s.seat.n → p.body.view ≤ s.view → p.certificate.block.view ≤ s.view
+  pub take_up_live : (s : State) (p : Proposal) → 1 ≤ s.seat.n → p.body.view ≤ s.view → p.certificate.block.view ≤ s.view
       → certificate_stands (pit.table i) s.seat.n p.certificate ≡ true → Led pit lines (body_key p.body)
       → Live pit i lines s → Live pit i lines (take_up p s).state
-  take-up-live s p ln le lc st led l =
+  take_up_live s p ln le lc st led l =
       take_up_ways p s (Live pit i lines)
-      (λ e. candidate-live s p.body g len lg from l e led)
-      (λ e. old-live s p.body g len lg from l e)
+      (λ e. candidate_live s p.body g len lg from l e led)
+      (λ e. old_live s p.body g len lg from l e)
     where
       b : Block
       b = fresh p.body (body_name p.body)
@@ -204,10 +204,10 @@ module _ (pit : Pit) (i : ℕ) (lines : Sheet) where
       len : length (put (fresh p.body (body_name p.body)) s.ledger.shelf) ≡ length s.ledger.shelf
       len = length-put s.ledger.shelf (fresh p.body (body_name p.body))
 
-      lg : Live-ledger (pit.table i) s.seat.n (Led pit lines) s.view (with_top p.certificate (placed (fresh p.body (body_name p.body)) s.ledger))
-      lg = with-top-live (pit.table i) s.seat.n (Led pit lines) s.view p.certificate (placed b s.ledger) lc st
-          (placed-live (pit.table i) s.seat.n (Led pit lines) s.view b s.ledger
-          (fresh-live (pit.table i) s.seat.n (Led pit lines) s.view b refl le led)
+      lg : LiveLedger (pit.table i) s.seat.n (Led pit lines) s.view (with_top p.certificate (placed (fresh p.body (body_name p.body)) s.ledger))
+      lg = with_top_live (pit.table i) s.seat.n (Led pit lines) s.view p.certificate (placed b s.ledger) lc st
+          (placed_live (pit.table i) s.seat.n (Led pit lines) s.view b s.ledger
+          (fresh_live (pit.table i) s.seat.n (Led pit lines) s.view b refl le led)
           (nobody s.seat.n ln) l.ledger)
 
       from : (c : Block) → On c (put (fresh p.body (body_name p.body)) s.ledger.shelf) → (c.body ≡ p.body) ⊎ On c s.ledger.shelf

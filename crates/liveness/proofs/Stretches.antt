@@ -20,7 +20,7 @@ use Rattle.sheets.specs.Sound.{SoundSheet}
 use Rattle.sheets.specs.Timely.{Stretch, Timely, Inside}
 use Rattle.safety.proofs.Grounds.{TickStands}
 use Rattle.safety.proofs.Histories.{blocks, sound_earlier, state_other, history, grows_lines}
-use Rattle.safety.proofs.Ledgers.{Sound-ledger, ledger-grows}
+use Rattle.safety.proofs.Ledgers.{SoundLedger, ledger_grows}
 use Rattle.safety.proofs.Runs.{sound_run}
 use Rattle.sheets.specs.Sheet.{chain}
 use Rattle.liveness.proofs.Clock.{SameVote, Clocks, step_clock, tick_taken}
@@ -65,11 +65,11 @@ module _ (c : Case) where
   Run = c.st.run
 
   -- before and after the line at a spot
-  pub before-spot : (p : Spot c.st.run) → Inside c.st p → Now c p.earlier
-  before-spot p l = record { later = p.later ++ (p.line ∷ []); here = spot_lines p; inside = l }
+  pub before_spot : (p : Spot c.st.run) → Inside c.st p → Now c p.earlier
+  before_spot p l = record { later = p.later ++ (p.line ∷ []); here = spot_lines p; inside = l }
 
-  pub after-spot : (p : Spot c.st.run) → Inside c.st p → Now c (p.line ∷ p.earlier)
-  after-spot p l = record { later = p.later; here = p.here; inside = omega (arith, l) }
+  pub after_spot : (p : Spot c.st.run) → Inside c.st p → Now c (p.line ∷ p.earlier)
+  after_spot p l = record { later = p.later; here = p.here; inside = omega (arith, l) }
 
   pub the_end : Now c c.st.run
   the_end = record {
@@ -78,15 +78,15 @@ module _ (c : Case) where
     inside = omega (arith, ap (λ (x : Sheet). length x) c.st.begins, length-append c.st.within (c.st.start ∷ c.st.before));
   }
 
-  pub the-start : Now c c.st.before
-  the-start = record {
+  pub the_start : Now c c.st.before
+  the_start = record {
     later = c.st.within ++ (c.st.start ∷ []);
     here = c.st.begins ∙ sym (append_assoc c.st.within (c.st.start ∷ []) c.st.before);
     inside = omega arith;
   }
 
-  pub good-at : (m : Sheet) → Now c m → SoundSheet c.pit m
-  good-at m n = sound_earlier c.pit n.later m (subst (SoundSheet c.pit) n.here c.good)
+  pub good_at : (m : Sheet) → Now c m → SoundSheet c.pit m
+  good_at m n = sound_earlier c.pit n.later m (subst (SoundSheet c.pit) n.here c.good)
 
   -- ---- from one moment to a later one
 
@@ -121,24 +121,24 @@ module _ (c : Case) where
         let r = onward b nb l s h in
         subst (Q s) (same_some r.0 w (sym r.1 ∙ k)) r.2
 
-  pub not-opening : (p : Spot c.st.run) → Inside c.st p → is_opening p.line.call ≡ false
-  not-opening p l = ⊎_elim (λ e. absurd (c.timely.no_opening p l e)) (λ e. e) (cases_Bool (is_opening p.line.call))
+  pub not_opening : (p : Spot c.st.run) → Inside c.st p → is_opening p.line.call ≡ false
+  not_opening p l = ⊎_elim (λ e. absurd (c.timely.no_opening p l e)) (λ e. e) (cases_Bool (is_opening p.line.call))
 
   -- ---- a console at a moment
 
   pub open_at : (i : ℕ) → Sound c.pit i → (m : Sheet) → Now c m → (s : State) × At c i m s
   open_at i sound m n =
       let r = c.timely.all_ready i sound in
-      let o = onward i c.st.before the-start (λ s w. Unit {0}) (λ s. tt) (λ p l f e s w h q. tt) m n n.inside r.0 r.1 in
+      let o = onward i c.st.before the_start (λ s w. Unit {0}) (λ s. tt) (λ p l f e s w h q. tt) m n n.inside r.0 r.1 in
       (o.0, record { sound = sound; now = n; is = o.1 })
 
   pub live : (i : ℕ) (m : Sheet) (s : State) → At c i m s → Live c.pit i m s
-  live i m s a = live_run c.pit i a.sound.0 m s a.is (good-at m a.now)
+  live i m s a = live_run c.pit i a.sound.0 m s a.is (good_at m a.now)
 
-  pub ledger-sound : (i : ℕ) (m : Sheet) (s : State) → At c i m s → Sound-ledger c.pit (history c.pit c.st.run) (chain c.pit i m) s.ledger
-  ledger-sound i m s a =
-      let r = ((sound_run c.pit m (good-at m a.now)).console i a.sound).open_state s a.is in
-      ledger-grows c.pit (history c.pit m) (history c.pit c.st.run)
+  pub ledger_sound : (i : ℕ) (m : Sheet) (s : State) → At c i m s → SoundLedger c.pit (history c.pit c.st.run) (chain c.pit i m) s.ledger
+  ledger_sound i m s a =
+      let r = ((sound_run c.pit m (good_at m a.now)).console i a.sound).open_state s a.is in
+      ledger_grows c.pit (history c.pit m) (history c.pit c.st.run)
       (subst (λ (x : Sheet). More-votes blocks (history c.pit m) (history c.pit x)) (sym a.now.here) (grows_lines c.pit a.now.later m))
       (chain c.pit i m) s.ledger r.stands.ledger
 
@@ -146,7 +146,7 @@ module _ (c : Case) where
   grown i a b s w at_a at_b l =
       across i a at_a.now Grows grows_same
       (λ p k f e x y h q. grows_on x y (stepped c.pit i p.line y).state q
-      (goes_grows y (stepped c.pit i p.line y) (step_on (c.pit.table i) p.line.seal y p.line.call (not-opening p k))))
+      (goes_grows y (stepped c.pit i p.line y) (step_on (c.pit.table i) p.line.seal y p.line.call (not_opening p k))))
       b at_b.now l s w at_a.is at_b.is
 
   -- ---- ticks
@@ -157,16 +157,16 @@ module _ (c : Case) where
     pub console : p.line.console ≡ i
     pub call : p.line.call ≡ ticking u
 
-  pub tick-line : (i : ℕ) → Sound c.pit i → (u : ℕ) → 2 * c.v ≤ u → u < 2 * c.v + 4 → (p : Spot c.st.run) × Ticks i u p
-  tick-line i sound u l m =
+  pub tick_line : (i : ℕ) → Sound c.pit i → (u : ℕ) → 2 * c.v ≤ u → u < 2 * c.v + 4 → (p : Spot c.st.run) × Ticks i u p
+  tick_line i sound u l m =
       let r = c.timely.takes_ticks i sound (u - 2 * c.v) (omega (arith, l, m)) in
       let e : 2 * c.v + (u - 2 * c.v) ≡ u = omega (arith, l) in
       (r.0, record { inside = r.1; console = r.2; call = r.3 ∙ ap (λ (x : ℕ). ticking x) e })
 
   -- it was not refused
-  pub not-refused : (i u : ℕ) (p : Spot c.st.run) → Ticks i u p → (s : State) → state_at c.pit i p.earlier ≡ Some s
+  pub not_refused : (i u : ℕ) (p : Spot c.st.run) → Ticks i u p → (s : State) → state_at c.pit i p.earlier ≡ Some s
       → (stepped c.pit i p.line s ≡ tick p.line.seal s u) × ((r : Refusal) → (tick p.line.seal s u).answer ≡ refused r → ⊥)
-  not-refused i u p k s h =
+  not_refused i u p k s h =
       let d = done_open c.pit i p.line p.earlier s k.console h in
       let e : stepped c.pit i p.line s ≡ tick p.line.seal s u = ap (step (c.pit.table i) p.line.seal s) k.call in
       (e, λ r a. c.timely.no_tick_refused p k.inside u k.call r (ap answer_in d ∙ ap (λ (o : Outcome). Some o.answer) e ∙ ap (λ (x : Answer). Some x) a))
@@ -175,31 +175,31 @@ module _ (c : Case) where
   pub taken_at : (i u : ℕ) (p : Spot c.st.run) → Ticks i u p → (s : State) → state_at c.pit i p.earlier ≡ Some s
       → TickStands s u × ((stepped c.pit i p.line s).state.tick ≡ u)
   taken_at i u p k s h =
-      let n = not-refused i u p k s h in
+      let n = not_refused i u p k s h in
       let r = tick_taken p.line.seal s u n.1 in
       (r.0, ap (λ (o : Outcome). o.state.tick) n.0 ∙ r.1)
 
   -- before it the clock stands below u, after it at u or above
-  pub tick-below : (i u : ℕ) (p : Spot c.st.run) → Ticks i u p → (m : Sheet) (s : State) → At c i m s → length m ≤ length p.earlier → s.tick < u
-  tick-below i u p k m s a l =
-      let o = open_at i a.sound p.earlier (before-spot p k.inside) in
+  pub tick_below : (i u : ℕ) (p : Spot c.st.run) → Ticks i u p → (m : Sheet) (s : State) → At c i m s → length m ≤ length p.earlier → s.tick < u
+  tick_below i u p k m s a l =
+      let o = open_at i a.sound p.earlier (before_spot p k.inside) in
       let g = grown i m p.earlier s o.0 a o.1 l in
       omega (arith, g.tick, (taken_at i u p k o.0 o.1.is).0.later)
 
-  pub tick-above : (i u : ℕ) (p : Spot c.st.run) → Ticks i u p → (m : Sheet) (s : State) → At c i m s → length p.earlier < length m → u ≤ s.tick
-  tick-above i u p k m s a l =
-      let o = open_at i a.sound p.earlier (before-spot p k.inside) in
+  pub tick_above : (i u : ℕ) (p : Spot c.st.run) → Ticks i u p → (m : Sheet) (s : State) → At c i m s → length p.earlier < length m → u ≤ s.tick
+  tick_above i u p k m s a l =
+      let o = open_at i a.sound p.earlier (before_spot p k.inside) in
       let t = taken_at i u p k o.0 o.1.is in
       let h = state_next c.pit i p.line p.earlier o.0 k.console o.1.is in
-      let g = grown i (p.line ∷ p.earlier) m _ s (record { sound = a.sound; now = after-spot p k.inside; is = h }) a l in
+      let g = grown i (p.line ∷ p.earlier) m _ s (record { sound = a.sound; now = after_spot p k.inside; is = h }) a l in
       omega (arith, g.tick, t.1)
 
   -- no clock comes to the end of the stretch
-  pub tick-capped : (i : ℕ) (m : Sheet) (s : State) → At c i m s → s.tick < 2 * c.v + 4
-  tick-capped i m s a =
+  pub tick_capped : (i : ℕ) (m : Sheet) (s : State) → At c i m s → s.tick < 2 * c.v + 4
+  tick_capped i m s a =
       let r = c.timely.all_ready i a.sound in
-      across i c.st.before the-start (λ x y. x.tick < 2 * c.v + 4 → y.tick < 2 * c.v + 4) (λ x h. h)
-      (λ p l f e x y h q b. capped p l y (step_clock (c.pit.table i) p.line.seal y p.line.call (not-opening p l)) (q b))
+      across i c.st.before the_start (λ x y. x.tick < 2 * c.v + 4 → y.tick < 2 * c.v + 4) (λ x h. h)
+      (λ p l f e x y h q b. capped p l y (step_clock (c.pit.table i) p.line.seal y p.line.call (not_opening p l)) (q b))
       m a.now a.now.inside r.0 s r.1 a.is (omega (arith, r.2.0))
     where
       capped : (p : Spot c.st.run) → Inside c.st p → (y : State) → Clocks p.line.call y (stepped c.pit i p.line y).state
@@ -208,13 +208,13 @@ module _ (c : Case) where
       capped p l y (inr moved) b = omega (arith, moved.2, (c.timely.no_other_tick p l moved.0 moved.1).1)
 
   -- where every tick u of the stretch is still to come, the clock stands below u
-  pub tick-under : (i u : ℕ) (m : Sheet) (s : State) → At c i m s → 2 * c.v ≤ u → u ≤ 2 * c.v + 4
+  pub tick_under : (i u : ℕ) (m : Sheet) (s : State) → At c i m s → 2 * c.v ≤ u → u ≤ 2 * c.v + 4
       → ((r : Spot c.st.run) → Inside c.st r → r.line.call ≡ ticking u → length m ≤ length r.earlier) → s.tick < u
-  tick-under i u m s a l k all =
+  tick_under i u m s a l k all =
       ⊎_elim
-      (λ less. let p = tick-line i a.sound u l less in
-      tick-below i u p.0 p.1 m s a (all p.0 p.1.inside p.1.call))
-      (λ more. omega (arith, tick-capped i m s a, more))
+      (λ less. let p = tick_line i a.sound u l less in
+      tick_below i u p.0 p.1 m s a (all p.0 p.1.inside p.1.call))
+      (λ more. omega (arith, tick_capped i m s a, more))
       (cases_lt u (2 * c.v + 4))
 
   -- ---- votes
@@ -225,7 +225,7 @@ module _ (c : Case) where
       → w.tick < 2 * u + 1 → SameVote s w
   quiet i u a b s w at_a at_b l later =
       across i a at_a.now (λ x y. y.tick < 2 * u + 1 → SameVote x y) (λ x h. (refl, refl))
-      (λ p k f e x y h q. moved p k f e x y h q (step_clock (c.pit.table i) p.line.seal y p.line.call (not-opening p k)))
+      (λ p k f e x y h q. moved p k f e x y h q (step_clock (c.pit.table i) p.line.seal y p.line.call (not_opening p k)))
       b at_b.now l s w at_a.is at_b.is
     where
       joins : (x y z : State) → SameVote x y → SameVote y z → SameVote x z

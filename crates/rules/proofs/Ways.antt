@@ -24,8 +24,8 @@ use Rattle.rules.specs.Tick.{tick_ground, clocked, candidate_block, may_vote, ma
 by_ground : (ground : Option Refusal) (s : State) (o : Outcome) (P : Outcome → Type 0)
     → ((r : Refusal) → ground ≡ Some r → P (only (refused r) s)) → (ground ≡ None → P o)
     → P (elim ground [ Some r ↦ only (refused r) s | None ↦ o ])
-by_ground None s o P no_way done-way = done-way refl
-by_ground (Some r) s o P no_way done-way = no_way r refl
+by_ground None s o P no_way done_way = done_way refl
+by_ground (Some r) s o P no_way done_way = no_way r refl
 
 -- ---- tick
 

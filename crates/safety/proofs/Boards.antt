@@ -23,20 +23,20 @@ module _ {World : Type 0} (rule : World → Order → World) where
   fed-append w (x ∷ xs) ys = fed-append (rule w x) xs ys
 
   -- one line more, by what it is: at this console or not, an opening or not
-  board-more : (own op : Bool) (given was start : World) (bodies handed : List Body) → was ≡ fed rule start (all_orders bodies)
+  board_more : (own op : Bool) (given was start : World) (bodies handed : List Body) → was ≡ fed rule start (all_orders bodies)
       → cond own (cond op given (fed rule was (all_orders handed))) was
       ≡ fed rule (cond own (cond op given start) start) (all_orders (cond own (cond op [] (bodies ++ handed)) bodies))
   unfolding fed all_orders
-  board-more true true given was start bodies handed e = refl
-  board-more true false given was start bodies handed e =
+  board_more true true given was start bodies handed e = refl
+  board_more true false given was start bodies handed e =
       ap (λ (w : World). fed rule w (all_orders handed)) e
       ∙ sym (fed-append start (all_orders bodies) (all_orders handed))
       ∙ ap (fed rule start) (sym (orders_append bodies handed))
-  board-more false op given was start bodies handed e = e
+  board_more false op given was start bodies handed e = e
 
-  pub boards-show : BoardsShow World rule
+  pub boards_show : BoardsShow World rule
   unfolding board_at board_opened chain fed all_orders
-  boards-show pit [] i given none = refl
-  boards-show pit (l ∷ ls) i given none =
-      board-more (eqb l.console i) (is_opening l.call) (given ls) (board_at rule given none pit i ls) (board_opened given none i ls)
-      (chain pit i ls) (handed_in (done pit l ls)) (boards-show pit ls i given none)
+  boards_show pit [] i given none = refl
+  boards_show pit (l ∷ ls) i given none =
+      board_more (eqb l.console i) (is_opening l.call) (given ls) (board_at rule given none pit i ls) (board_opened given none i ls)
+      (chain pit i ls) (handed_in (done pit l ls)) (boards_show pit ls i given none)

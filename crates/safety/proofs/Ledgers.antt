@@ -34,7 +34,7 @@ none_holds i e = omega (arith, e, div-eq_of_lt (pow_pos i))
 
 module _ (pit : Pit) (h : History blocks) where
   -- a held block: named by its digest, shown, above a parent that may be built on, with votes that were cast
-  pub record Sound-block (b : Block) : Type 0 where
+  pub record SoundBlock (b : Block) : Type 0 where
     pub named : b.name ≡ body_name b.body
     pub shown : Among b.body h.shown
     pub above : b.body.parent.view < b.body.view
@@ -43,12 +43,12 @@ module _ (pit : Pit) (h : History blocks) where
     pub voted : (i : ℕ) → Sound pit i → Holds b.tally.set i → Voted blocks h i (block_key b)
 
   -- a shelf holds sound blocks only
-  abbrev pub Sound-shelf : List Slot → Type 0
-  Sound-shelf xs = (b : Block) → On b xs → Sound-block b
+  abbrev pub SoundShelf : List Slot → Type 0
+  SoundShelf xs = (b : Block) → On b xs → SoundBlock b
 
   -- a ledger whose handed_over bodies are these
-  pub record Sound-ledger (bodies : List Body) (g : Ledger) : Type 0 where
-    pub shelf : Sound-shelf g.shelf
+  pub record SoundLedger (bodies : List Body) (g : Ledger) : Type 0 where
+    pub shelf : SoundShelf g.shelf
     pub top : Backed blocks (consoles pit) h g.top.block
     pub settled : Settled blocks (consoles pit) h g.head bodies
     pub counted : length bodies ≡ g.count
@@ -56,8 +56,8 @@ module _ (pit : Pit) (h : History blocks) where
 -- ---- a history that grows
 
 module _ (pit : Pit) (g h : History blocks) (grows : Grows blocks g h) where
-  pub block-grows : (b : Block) → Sound-block pit g b → Sound-block pit h b
-  block-grows b s = record {
+  pub block_grows : (b : Block) → SoundBlock pit g b → SoundBlock pit h b
+  block_grows b s = record {
     named = s.named;
     shown = grows.shown b.body s.shown;
     above = s.above;
@@ -66,9 +66,9 @@ module _ (pit : Pit) (g h : History blocks) (grows : Grows blocks g h) where
     voted = λ i sound holds. let v = s.voted i sound holds in (v.0, grows.votes i v.0 v.1, v.2);
   }
 
-  pub ledger-grows : (bodies : List Body) (l : Ledger) → Sound-ledger pit g bodies l → Sound-ledger pit h bodies l
-  ledger-grows bodies l s = record {
-    shelf = λ b on. block-grows b (s.shelf b on);
+  pub ledger_grows : (bodies : List Body) (l : Ledger) → SoundLedger pit g bodies l → SoundLedger pit h bodies l
+  ledger_grows bodies l s = record {
+    shelf = λ b on. block_grows b (s.shelf b on);
     top = backed-grows blocks (consoles pit) g h grows l.top.block s.top;
     settled = settled_grows blocks (consoles pit) g h grows l.head bodies s.settled;
     counted = s.counted;
@@ -78,31 +78,31 @@ module _ (pit : Pit) (g h : History blocks) (grows : Grows blocks g h) where
 
 module _ (pit : Pit) (h : History blocks) where
   -- opening
-  pub empty-sound : (slots : ℕ) → Sound-ledger pit h [] (empty_ledger slots)
-  empty-sound slots = record {
+  pub empty_sound : (slots : ℕ) → SoundLedger pit h [] (empty_ledger slots)
+  empty_sound slots = record {
     shelf = λ b on. absurd (none_on slots b on);
     top = inl refl;
     settled = settled_none blocks (consoles pit) h;
     counted = refl;
   }
 
-  pub block-named : (b : Block) → Sound-block pit h b → body_key b.body ≡ block_key b
-  block-named b s = ap (λ (x : List ℕ). record { view = b.body.view; name = x }) (sym s.named)
+  pub block_named : (b : Block) → SoundBlock pit h b → body_key b.body ≡ block_key b
+  block_named b s = ap (λ (x : List ℕ). record { view = b.body.view; name = x }) (sym s.named)
 
   -- a key of view 1 or more that may be built on is certified
-  pub backed-certified : (k : Key) → 1 ≤ k.view → Backed blocks (consoles pit) h k → Certified blocks (consoles pit) h k
-  backed-certified k l (inl e) = absurd (omega (arith, l, ap (λ (x : Key). x.view) e))
-  backed-certified k l (inr c) = c
+  pub backed_certified : (k : Key) → 1 ≤ k.view → Backed blocks (consoles pit) h k → Certified blocks (consoles pit) h k
+  backed_certified k l (inl e) = absurd (omega (arith, l, ap (λ (x : Key). x.view) e))
+  backed_certified k l (inr c) = c
 
   -- a tally with a quorum
-  pub tally-certified : (b : Block) → Sound-block pit h b → is_quorum pit.n b.tally.set ≡ true
+  pub tally_certified : (b : Block) → SoundBlock pit h b → is_quorum pit.n b.tally.set ≡ true
       → Certified blocks (consoles pit) h (block_key b)
-  tally-certified b s q = record { signers = b.tally.set; within = s.within; quorum = T_true _ q; voted = s.voted }
+  tally_certified b s q = record { signers = b.tally.set; within = s.within; quorum = T_true _ q; voted = s.voted }
 
   -- a new block
-  pub fresh-sound : (body : Body) → Among body h.shown → body.parent.view < body.view
-      → Backed blocks (consoles pit) h body.parent → Sound-block pit h (fresh body (body_name body))
-  fresh-sound body m l k = record {
+  pub fresh_sound : (body : Body) → Among body h.shown → body.parent.view < body.view
+      → Backed blocks (consoles pit) h body.parent → SoundBlock pit h (fresh body (body_name body))
+  fresh_sound body m l k = record {
     named = refl;
     shown = m;
     above = l;
@@ -111,35 +111,35 @@ module _ (pit : Pit) (h : History blocks) where
     voted = λ i sound holds. absurd (none_holds i holds);
   }
 
-  pub placed-sound : (bodies : List Body) (b : Block) (g : Ledger) → Sound-block pit h b → Sound-ledger pit h bodies g
-      → Sound-ledger pit h bodies (placed b g)
-  placed-sound bodies b g s l = record {
-    shelf = λ c on. ⊎_elim (λ e. subst (Sound-block pit h) (sym e) s) (l.shelf c) (on_put g.shelf b c on);
+  pub placed_sound : (bodies : List Body) (b : Block) (g : Ledger) → SoundBlock pit h b → SoundLedger pit h bodies g
+      → SoundLedger pit h bodies (placed b g)
+  placed_sound bodies b g s l = record {
+    shelf = λ c on. ⊎_elim (λ e. subst (SoundBlock pit h) (sym e) s) (l.shelf c) (on_put g.shelf b c on);
     top = l.top;
     settled = l.settled;
     counted = l.counted;
   }
 
-  higher-backed : (top new : Certificate) → Backed blocks (consoles pit) h top.block → Backed blocks (consoles pit) h new.block
+  higher_backed : (top new : Certificate) → Backed blocks (consoles pit) h top.block → Backed blocks (consoles pit) h new.block
       → Backed blocks (consoles pit) h (higher_certificate top new).block
-  higher-backed top new t k =
+  higher_backed top new t k =
       cond_both (ltb top.block.view new.block.view) new top (λ (c : Certificate). Backed blocks (consoles pit) h c.block) (λ _. k) (λ _. t)
 
-  pub with-top-sound : (bodies : List Body) (c : Certificate) (g : Ledger) → Backed blocks (consoles pit) h c.block
-      → Sound-ledger pit h bodies g → Sound-ledger pit h bodies (with_top c g)
-  with-top-sound bodies c g k l = record {
+  pub with_top_sound : (bodies : List Body) (c : Certificate) (g : Ledger) → Backed blocks (consoles pit) h c.block
+      → SoundLedger pit h bodies g → SoundLedger pit h bodies (with_top c g)
+  with_top_sound bodies c g k l = record {
     shelf = l.shelf;
-    top = higher-backed g.top c l.top k;
+    top = higher_backed g.top c l.top k;
     settled = l.settled;
     counted = l.counted;
   }
 
   -- ---- a vote enters a tally
 
-  joined-sound : (b : Block) (voter : ℕ) (seal : List ℕ) → voter < pit.n → (Sound pit voter → Voted blocks h voter (block_key b))
-      → Sound-block pit h b → Sound-block pit h (with_tally b (joined voter seal b.tally))
-  joined-sound b voter seal l v s =
-      cond_both (signed b.tally.set voter) b.tally _ (λ (t : Signers). Sound-block pit h (with_tally b t))
+  joined_sound : (b : Block) (voter : ℕ) (seal : List ℕ) → voter < pit.n → (Sound pit voter → Voted blocks h voter (block_key b))
+      → SoundBlock pit h b → SoundBlock pit h (with_tally b (joined voter seal b.tally))
+  joined_sound b voter seal l v s =
+      cond_both (signed b.tally.set voter) b.tally _ (λ (t : Signers). SoundBlock pit h (with_tally b t))
       (λ _. record { named = s.named; shown = s.shown; above = s.above; backed = s.backed; within = s.within; voted = s.voted })
       (λ _. record {
         named = s.named;
@@ -155,40 +155,40 @@ module _ (pit : Pit) (h : History blocks) where
       })
 
   top_sound : (top : Certificate) (b : Block) (after : Signers) → Backed blocks (consoles pit) h top.block
-      → Sound-block pit h (with_tally b after)
+      → SoundBlock pit h (with_tally b after)
       → Backed blocks (consoles pit) h (top_after pit.n top (block_key b) b.tally after).block
   top_sound top b after t s =
       cond_both (completes pit.n b.tally after) _ top (λ (c : Certificate). Backed blocks (consoles pit) h c.block)
       (λ e.
-      higher-backed top (record { block = block_key b; signers = after }) t
-      (inr (tally-certified (with_tally b after) s (and_parts (not (is_quorum pit.n b.tally.set)) _ e).1)))
+      higher_backed top (record { block = block_key b; signers = after }) t
+      (inr (tally_certified (with_tally b after) s (and_parts (not (is_quorum pit.n b.tally.set)) _ e).1)))
       (λ _. t)
 
-  enter-slot-sound : (bodies : List Body) (voter : ℕ) (seal : List ℕ) (i : ℕ) (x : Slot) (g : Ledger) → voter < pit.n
+  enter_slot_sound : (bodies : List Body) (voter : ℕ) (seal : List ℕ) (i : ℕ) (x : Slot) (g : Ledger) → voter < pit.n
       → ((b : Block) → x ≡ Some b → (Sound pit voter → Voted blocks h voter (block_key b)) × On b g.shelf)
-      → Sound-ledger pit h bodies g → Sound-ledger pit h bodies (enter_slot pit.n voter seal i x g)
+      → SoundLedger pit h bodies g → SoundLedger pit h bodies (enter_slot pit.n voter seal i x g)
   unfolding enter_slot
-  enter-slot-sound bodies voter seal i None g l v s = s
-  enter-slot-sound bodies voter seal i (Some b) g l v s =
+  enter_slot_sound bodies voter seal i None g l v s = s
+  enter_slot_sound bodies voter seal i (Some b) g l v s =
       let p = v b refl in
-      let new = joined-sound b voter seal l p.0 (s.shelf b p.1) in
+      let new = joined_sound b voter seal l p.0 (s.shelf b p.1) in
       record {
-        shelf = λ c on. ⊎_elim (λ e. subst (Sound-block pit h) (sym e) new) (s.shelf c) (on_set g.shelf i _ c on);
+        shelf = λ c on. ⊎_elim (λ e. subst (SoundBlock pit h) (sym e) new) (s.shelf c) (on_set g.shelf i _ c on);
         top = top_sound g.top b _ s.top new;
         settled = s.settled;
         counted = s.counted;
       }
 
-  pub enter-sound : (bodies : List Body) (k : Key) (voter : ℕ) (seal : List ℕ) (g : Ledger) → voter < pit.n
-      → (Sound pit voter → Voted blocks h voter k) → Sound-ledger pit h bodies g
-      → Sound-ledger pit h bodies (enter pit.n k voter seal g)
+  pub enter_sound : (bodies : List Body) (k : Key) (voter : ℕ) (seal : List ℕ) (g : Ledger) → voter < pit.n
+      → (Sound pit voter → Voted blocks h voter k) → SoundLedger pit h bodies g
+      → SoundLedger pit h bodies (enter pit.n k voter seal g)
   unfolding enter
-  enter-sound bodies k voter seal g l v s = at (where_held k g.shelf) refl
+  enter_sound bodies k voter seal g l v s = at (where_held k g.shelf) refl
     where
-      at : (o : Option ℕ) → where_held k g.shelf ≡ o → Sound-ledger pit h bodies (enter_at pit.n voter seal o g)
+      at : (o : Option ℕ) → where_held k g.shelf ≡ o → SoundLedger pit h bodies (enter_at pit.n voter seal o g)
       at None e = s
       at (Some i) e =
-          enter-slot-sound bodies voter seal i (get_or g.shelf i None) g l
+          enter_slot_sound bodies voter seal i (get_or g.shelf i None) g l
           (λ b f.
           let w = held_on k g.shelf b (ap (λ (o : Option ℕ). slot_at o g.shelf) e ∙ f) in
           (λ sound. subst (Voted blocks h voter) (sym w.1) (v sound), w.0))
@@ -196,22 +196,22 @@ module _ (pit : Pit) (h : History blocks) where
 
 -- ---- settling
 
-module _ (pit : Pit) (h : History blocks) (xs : List Slot) (sound : Sound-shelf pit h xs) where
+module _ (pit : Pit) (h : History blocks) (xs : List Slot) (sound : SoundShelf pit h xs) where
   -- a held block that counts as certified is
-  pub certified-sound : (b : Block) → On b xs → certified pit.n xs b ≡ true → Certified blocks (consoles pit) h (block_key b)
-  certified-sound b on e =
+  pub certified_sound : (b : Block) → On b xs → certified pit.n xs b ≡ true → Certified blocks (consoles pit) h (block_key b)
+  certified_sound b on e =
       let s = sound b on in
       ⊎_elim
-      (λ q. tally-certified pit h b s q)
+      (λ q. tally_certified pit h b s q)
       (λ t.
       let c = some_slot_on (names_parent (block_key b)) refl xs t in
       let k : c.0.body.parent ≡ block_key b = key_same _ _ c.2 in
-      backed-certified pit h (block_key b) (omega (arith, s.above)) (subst (Backed blocks (consoles pit) h) k (sound c.0 c.1).backed))
+      backed_certified pit h (block_key b) (omega (arith, s.above)) (subst (Backed blocks (consoles pit) h) k (sound c.0 c.1).backed))
       (or_cases (is_quorum pit.n b.tally.set) _ e)
 
   -- a held block with a certified child of the next view is final
-  pub confirmed-final : (b : Block) → On b xs → some_slot (confirms pit.n xs b) xs ≡ true → Final blocks (consoles pit) h (block_key b)
-  confirmed-final b on e =
+  pub confirmed_final : (b : Block) → On b xs → some_slot (confirms pit.n xs b) xs ≡ true → Final blocks (consoles pit) h (block_key b)
+  confirmed_final b on e =
       let s = sound b on in
       let c = some_slot_on (confirms pit.n xs b) refl xs e in
       let child = sound c.0 c.1 in
@@ -220,17 +220,17 @@ module _ (pit : Pit) (h : History blocks) (xs : List Slot) (sound : Sound-shelf 
       let upon : c.0.body.parent ≡ block_key b = key_same _ _ p.0 in
       let next : c.0.body.view ≡ b.body.view + 1 = eqb-true _ _ q.0 in
       record {
-        certified = backed-certified pit h (block_key b) (omega (arith, s.above)) (subst (Backed blocks (consoles pit) h) upon child.backed);
+        certified = backed_certified pit h (block_key b) (omega (arith, s.above)) (subst (Backed blocks (consoles pit) h) upon child.backed);
         child = c.0.body;
         shown = child.shown;
         upon = upon;
         next = next ∙ add-one b.body.view;
-        follows = subst (Certified blocks (consoles pit) h) (sym (block-named pit h c.0 child)) (certified-sound c.0 c.1 q.1);
+        follows = subst (Certified blocks (consoles pit) h) (sym (block_named pit h c.0 child)) (certified_sound c.0 c.1 q.1);
       }
 
   -- the held parent of a held block
-  pub parent-on : (b p : Block) → parent_of xs b ≡ Some p → On p xs × (block_key p ≡ b.body.parent)
-  parent-on b p e = held_on b.body.parent xs p (found (ltb b.body.parent.view b.body.view) e)
+  pub parent_on : (b p : Block) → parent_of xs b ≡ Some p → On p xs × (block_key p ≡ b.body.parent)
+  parent_on b p e = held_on b.body.parent xs p (found (ltb b.body.parent.view b.body.view) e)
     where
       found : (t : Bool) → cond t (held b.body.parent xs) None ≡ Some p → held b.body.parent xs ≡ Some p
       found true f = f
@@ -240,14 +240,14 @@ module _ (pit : Pit) (h : History blocks) (xs : List Slot) (sound : Sound-shelf 
       → Chain blocks h head (bodies ++ (b.body ∷ [])) (block_key b)
   one_link b on bodies head c =
       let s = sound b on in
-      subst (Chain blocks h head (bodies ++ (b.body ∷ []))) (block-named pit h b s) (chain-push blocks h bodies head b.body s.shown c)
+      subst (Chain blocks h head (bodies ++ (b.body ∷ []))) (block_named pit h b s) (chain-push blocks h bodies head b.body s.shown c)
 
   -- the line of held parents that reaches the head is a chain
-  line-chain : (steps : ℕ) (head : Key) (b : Block) → On b xs → reaches_within steps xs head b ≡ true
+  line_chain : (steps : ℕ) (head : Key) (b : Block) → On b xs → reaches_within steps xs head b ≡ true
       → Chain blocks h head (line_within steps xs head b) (block_key b)
   unfolding reaches_within line_within
-  line-chain zero head b on e = absurd (both_ways false refl e)
-  line-chain (suc steps) head b on e = at (same_key b.body.parent head) refl e (λ p. line-chain steps head p)
+  line_chain zero head b on e = absurd (both_ways false refl e)
+  line_chain (suc steps) head b on e = at (same_key b.body.parent head) refl e (λ p. line_chain steps head p)
     where
       parents : (o : Slot) → parent_of xs b ≡ o
           → elim o [ None ↦ false | Some p ↦ reaches_within steps xs head p ] ≡ true
@@ -255,7 +255,7 @@ module _ (pit : Pit) (h : History blocks) (xs : List Slot) (sound : Sound-shelf 
           → Chain blocks h head (elim o [ None ↦ [] | Some p ↦ line_within steps xs head p ] ++ (b.body ∷ [])) (block_key b)
       parents None f r ih = absurd (both_ways false refl r)
       parents (Some p) f r ih =
-          let w = parent-on b p f in
+          let w = parent_on b p f in
           one_link b on (line_within steps xs head p) head (subst (Chain blocks h head (line_within steps xs head p)) w.1 (ih p w.0 r))
 
       at : (t : Bool) → same_key b.body.parent head ≡ t
@@ -267,12 +267,12 @@ module _ (pit : Pit) (h : History blocks) (xs : List Slot) (sound : Sound-shelf 
       at false f r ih = parents (parent_of xs b) refl r ih
 
 module _ (pit : Pit) (h : History blocks) where
-  settle-at-sound : (bodies : List Body) (x : Slot) (g : Ledger)
+  settle_at_sound : (bodies : List Body) (x : Slot) (g : Ledger)
       → ((b : Block) → x ≡ Some b → On b g.shelf × (ready pit.n g.shelf g.head (Some b) ≡ true))
-      → Sound-ledger pit h bodies g → Sound-ledger pit h (bodies ++ (settle_at x g).handed) (settle_at x g).ledger
+      → SoundLedger pit h bodies g → SoundLedger pit h (bodies ++ (settle_at x g).handed) (settle_at x g).ledger
   unfolding settle_at
-  settle-at-sound bodies None g f s = subst (λ (bs : List Body). Sound-ledger pit h bs g) (sym (append-nil bodies)) s
-  settle-at-sound bodies (Some b) g f s =
+  settle_at_sound bodies None g f s = subst (λ (bs : List Body). SoundLedger pit h bs g) (sym (append-nil bodies)) s
+  settle_at_sound bodies (Some b) g f s =
       let on = (f b refl).0 in
       let p = and_parts (ltb g.head.view b.body.view) _ (f b refl).1 in
       let q = and_parts (some_slot (confirms pit.n g.shelf b) g.shelf) _ p.1 in
@@ -281,14 +281,14 @@ module _ (pit : Pit) (h : History blocks) where
         top = s.top;
         settled =
             settled-push blocks (consoles pit) h g.head (block_key b) bodies _ s.settled
-            (line-chain pit h g.shelf s.shelf (suc b.body.view) g.head b on q.1)
-            (confirmed-final pit h g.shelf s.shelf b on q.0);
+            (line_chain pit h g.shelf s.shelf (suc b.body.view) g.head b on q.1)
+            (confirmed_final pit h g.shelf s.shelf b on q.0);
         counted = length-append bodies _ ∙ ap (λ (m : ℕ). m + length (line g.shelf g.head b)) s.counted;
       }
 
-  pub settle-sound : (bodies : List Body) (g : Ledger) → Sound-ledger pit h bodies g
-      → Sound-ledger pit h (bodies ++ (settle pit.n g).handed) (settle pit.n g).ledger
+  pub settle_sound : (bodies : List Body) (g : Ledger) → SoundLedger pit h bodies g
+      → SoundLedger pit h (bodies ++ (settle pit.n g).handed) (settle pit.n g).ledger
   unfolding settle
-  settle-sound bodies g s =
-      settle-at-sound bodies (best (ready pit.n g.shelf g.head) g.shelf) g
+  settle_sound bodies g s =
+      settle_at_sound bodies (best (ready pit.n g.shelf g.head) g.shelf) g
       (λ b e. best_on (ready pit.n g.shelf g.head) g.shelf b e) s

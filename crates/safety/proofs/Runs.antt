@@ -16,9 +16,9 @@ use Rattle.rules.specs.Step.{opens, Outcome, only}
 use Rattle.sheets.specs.Sheet.{Pit, Sound, Line, Sheet, Spot, first_opening, advance, state_after, state_at, done, handed_in, shown_in, sealed_in, relied_in, is_opening, chain}
 use Rattle.sheets.specs.Sound.{Sealed, SoundSheet}
 use Rattle.safety.proofs.Histories.{blocks, consoles, ballot_in, with_some, votes_of, shown_on, history, state_own, state_other, votes_own, votes_other, chain_own, chain_opening, chain_other, shown_more, some_among, some_added, grows_line, newest, sound_earlier, sealed_cases}
-use Rattle.safety.proofs.Ledgers.{ledger-grows, empty-sound}
+use Rattle.safety.proofs.Ledgers.{ledger_grows, empty_sound}
 use Rattle.rules.specs.Options.{absent, same_some}
-use Rattle.safety.proofs.Steps.{Told, AtConsole, MarksMove, GoodStep, step-good}
+use Rattle.safety.proofs.Steps.{Told, AtConsole, MarksMove, GoodStep, step_good}
 
 -- an empty sheet has no line
 no_spot : Spot [] → ⊥
@@ -55,7 +55,7 @@ pub record SoundRun (pit : Pit) (lines : Sheet) : Type 0 where
 pub console_grows : (pit : Pit) (g h : History blocks) → Grows blocks g h → (i : ℕ) (bodies : List Body) (s : State)
     → AtConsole pit g i bodies s → AtConsole pit h i bodies s
 console_grows pit g h grows i bodies s c =
-    record { size = c.size; own = c.own; store = c.store; ledger = ledger-grows pit g h grows bodies s.ledger c.ledger }
+    record { size = c.size; own = c.own; store = c.store; ledger = ledger_grows pit g h grows bodies s.ledger c.ledger }
 
 voted_grows : (g h : History blocks) → Grows blocks g h → (i : ℕ) (k : Key) → Voted blocks g i k → Voted blocks h i k
 voted_grows g h grows i k v = (v.0, grows.votes i v.0 v.1, v.2)
@@ -213,36 +213,36 @@ module _ (pit : Pit) (l : Line) (ls : Sheet) (sheet : SoundSheet pit (l ∷ ls))
   }
 
   -- no ballot, no new vote
-  same-votes : (d : Option Outcome) → done pit l ls ≡ d → ballot_in d ≡ None → votes_of pit (l ∷ ls) l.console ≡ votes_of pit ls l.console
-  same-votes d e b = votes_own pit l ls ∙ ap (λ (o : Option Body). with_some o (votes_of pit ls l.console)) (ap ballot_in e ∙ b)
+  same_votes : (d : Option Outcome) → done pit l ls ≡ d → ballot_in d ≡ None → votes_of pit (l ∷ ls) l.console ≡ votes_of pit ls l.console
+  same_votes d e b = votes_own pit l ls ∙ ap (λ (o : Option Body). with_some o (votes_of pit ls l.console)) (ap ballot_in e ∙ b)
 
   -- the state that the line leaves
-  left-state : (o : Outcome) → done pit l ls ≡ Some o → (s : State) → state_at pit l.console (l ∷ ls) ≡ Some s → o.state ≡ s
-  left-state o e s f =
+  left_state : (o : Outcome) → done pit l ls ≡ Some o → (s : State) → state_at pit l.console (l ∷ ls) ≡ Some s → o.state ≡ s
+  left_state o e s f =
       same_some o.state s (sym (state_own pit l ls ∙ ap (λ (d : Option Outcome). state_after d (state_at pit l.console ls)) e) ∙ f)
 
   left_open : {B : Type 0} (o : Outcome) → done pit l ls ≡ Some o → state_at pit l.console (l ∷ ls) ≡ None → B
   left_open o e n =
       absent o.state (sym n ∙ state_own pit l ls ∙ ap (λ (d : Option Outcome). state_after d (state_at pit l.console ls)) e)
 
-  opens-line : (seat : Seat) (kept : Marks) → done pit l ls ≡ Some (only opens (opened seat kept)) → is_opening l.call ≡ true
+  opens_line : (seat : Seat) (kept : Marks) → done pit l ls ≡ Some (only opens (opened seat kept)) → is_opening l.call ≡ true
       → seat.n ≡ pit.n → seat.own ≡ l.console → kept.voted ≡ last_view blocks (votes_of pit ls l.console)
       → kept.lock ≡ last_lock blocks (votes_of pit ls l.console) → GoodLine pit l ls
-  opens-line seat kept e op size own voted lock =
-      let same = same-votes _ e refl in
+  opens_line seat kept e op size own voted lock =
+      let same = same_votes _ e refl in
       let console : OpenConsole pit (l ∷ ls) l.console (opened seat kept) = record {
         stands =
             subst (λ (bs : List Body). AtConsole pit (history pit (l ∷ ls)) l.console bs (opened seat kept)) (sym (chain_opening pit l ls op))
-            (record { size = size; own = own; store = refl; ledger = empty-sound pit (history pit (l ∷ ls)) seat.slots });
+            (record { size = size; own = own; store = refl; ledger = empty_sound pit (history pit (l ∷ ls)) seat.slots });
         voted = voted ∙ ap (last_view blocks) (sym same);
         lock = lock ∙ ap (last_lock blocks) (sym same);
       } in
       quiet _ e refl refl refl
-      (λ s f. subst (OpenConsole pit (l ∷ ls) l.console) (left-state _ e s f) console)
+      (λ s f. subst (OpenConsole pit (l ∷ ls) l.console) (left_state _ e s f) console)
       (λ n. left_open _ e n)
 
-  idle-line : state_at pit l.console ls ≡ None → is_opening l.call ≡ false → GoodLine pit l ls
-  idle-line none op =
+  idle_line : state_at pit l.console ls ≡ None → is_opening l.call ≡ false → GoodLine pit l ls
+  idle_line none op =
       let e : done pit l ls ≡ None = ap (advance pit l) none ∙ not_first pit l.console l.call op in
       let still : state_at pit l.console (l ∷ ls) ≡ None =
       state_own pit l ls ∙ ap (λ (d : Option Outcome). state_after d (state_at pit l.console ls)) e ∙ none in
@@ -250,14 +250,14 @@ module _ (pit : Pit) (l : Line) (ls : Sheet) (sheet : SoundSheet pit (l ∷ ls))
       quiet None e refl refl refl
       (λ s f. absent s (sym still ∙ f))
       (λ _. (
-        same-votes None e refl ∙ c.0,
+        same_votes None e refl ∙ c.0,
         chain_own pit l ls op ∙ ap (λ (d : Option Outcome). chain pit l.console ls ++ handed_in d) e
             ∙ ap (λ (bs : List Body). bs ++ []) c.1,
       ))
 
   step_line : (s : State) → state_at pit l.console ls ≡ Some s → is_opening l.call ≡ false → GoodLine pit l ls
   step_line s was op = record {
-    open_state = λ w f. subst (OpenConsole pit (l ∷ ls) l.console) (left-state o e w f) console;
+    open_state = λ w f. subst (OpenConsole pit (l ∷ ls) l.console) (left_state o e w f) console;
     closed = λ n. left_open o e n;
     later = λ b f. moved_later o.ballot (votes_of pit ls l.console) s.marks o.state.marks good.marks c.voted c.lock b (sym (ap ballot_in e) ∙ f);
     ballot = λ b f. good.ballot b (sym (ap ballot_in e) ∙ f);
@@ -276,7 +276,7 @@ module _ (pit : Pit) (l : Line) (ls : Sheet) (sheet : SoundSheet pit (l ∷ ls))
 
       good : GoodStep pit (history pit (l ∷ ls)) l.console (chain pit l.console ls) s o
       good =
-          step-good pit (history pit (l ∷ ls)) l.console sound.0 sheet.the_pit.sixteen (chain pit l.console ls)
+          step_good pit (history pit (l ∷ ls)) l.console sound.0 sheet.the_pit.sixteen (chain pit l.console ls)
           (pit.table l.console) l.seal s l.call op
           (console_grows pit (history pit ls) (history pit (l ∷ ls)) grows l.console (chain pit l.console ls) s c.stands)
           (told o e)
@@ -293,43 +293,43 @@ module _ (pit : Pit) (l : Line) (ls : Sheet) (sheet : SoundSheet pit (l ∷ ls))
         lock = moved_lock o.ballot (votes_of pit ls l.console) s.marks o.state.marks good.marks c.lock ∙ ap (last_lock blocks) (sym votes);
       }
 
-  again-line : (s : State) → state_at pit l.console ls ≡ Some s → is_opening l.call ≡ true → GoodLine pit l ls
-  again-line s was op =
+  again_line : (s : State) → state_at pit l.console ls ≡ Some s → is_opening l.call ≡ true → GoodLine pit l ls
+  again_line s was op =
       let slots = opening_is l.call op in
       let c = before.open_state s was in
       let e : done pit l ls ≡ Some (only opens (opened (seat_over s.seat slots.0) s.store)) =
       ap (advance pit l) was ∙ ap (λ (x : Call). Some (step (pit.table l.console) l.seal s x)) slots.1 in
-      opens-line (seat_over s.seat slots.0) s.store e op c.stands.size c.stands.own
+      opens_line (seat_over s.seat slots.0) s.store e op c.stands.size c.stands.own
       (ap (λ (m : Marks). m.voted) c.stands.store ∙ c.voted)
       (ap (λ (m : Marks). m.lock) c.stands.store ∙ c.lock)
 
-  first-line : state_at pit l.console ls ≡ None → is_opening l.call ≡ true → GoodLine pit l ls
-  first-line none op =
+  first_line : state_at pit l.console ls ≡ None → is_opening l.call ≡ true → GoodLine pit l ls
+  first_line none op =
       let slots = opening_is l.call op in
       let c = before.closed none in
       let e : done pit l ls ≡ Some (only opens (opened (record { n = pit.n; own = l.console; slots = slots.0 }) no_marks)) =
       ap (advance pit l) none ∙ ap (first_opening pit l.console) slots.1 in
-      opens-line _ no_marks e op refl refl (ap (last_view blocks) (sym c.0)) (ap (last_lock blocks) (sym c.0))
+      opens_line _ no_marks e op refl refl (ap (last_view blocks) (sym c.0)) (ap (last_lock blocks) (sym c.0))
 
-  pub good-line : GoodLine pit l ls
-  good-line = at (state_at pit l.console ls) refl (cases_Bool (is_opening l.call))
+  pub good_line : GoodLine pit l ls
+  good_line = at (state_at pit l.console ls) refl (cases_Bool (is_opening l.call))
     where
       at : (o : Option State) → state_at pit l.console ls ≡ o → (is_opening l.call ≡ true) ⊎ (is_opening l.call ≡ false)
           → GoodLine pit l ls
-      at None e (inl op) = first-line e op
-      at None e (inr op) = idle-line e op
-      at (Some s) e (inl op) = again-line s e op
+      at None e (inl op) = first_line e op
+      at None e (inr op) = idle_line e op
+      at (Some s) e (inl op) = again_line s e op
       at (Some s) e (inr op) = step_line s e op
 
   run_more : SoundRun pit (l ∷ ls)
   run_more = record {
     console = λ i s.
         ⊎_elim
-        (λ e. subst (SoundConsole pit (l ∷ ls)) e (own_console pit l ls good-line before))
+        (λ e. subst (SoundConsole pit (l ∷ ls)) e (own_console pit l ls good_line before))
         (λ n. other_console pit l ls i n (run.console i s))
         (cases_eq l.console i);
     descend = λ b m.
-        ⊎_elim (good-line.shown b) (run.descend b)
+        ⊎_elim (good_line.shown b) (run.descend b)
         (some_among _ _ b (subst (λ (bs : List Body). Among b bs) (shown_more pit l ls) m));
   }
 

@@ -26,7 +26,7 @@ use Rattle.rules.specs.Tick.{clocked, candidate_block, may_vote, vote_for}
 use Rattle.sheets.specs.Sheet.{Pit, Sound, is_opening}
 use Rattle.safety.proofs.Grounds.{candidate_on, may_vote_facts, propose_stands, proposal_stands}
 use Rattle.safety.proofs.Histories.{blocks, consoles}
-use Rattle.safety.proofs.Ledgers.{Sound-ledger, block-named, fresh-sound, placed-sound, with-top-sound, enter-sound, settle-sound}
+use Rattle.safety.proofs.Ledgers.{SoundLedger, block_named, fresh_sound, placed_sound, with_top_sound, enter_sound, settle_sound}
 use Rattle.rules.specs.Options.{absent, same_some}
 use Rattle.safety.proofs.Reading.{ReadProposal, ReadVote, read_proposal, read_vote}
 use Rattle.rules.proofs.Ways.{turn_ways, vote_ways, tick_ways, propose_ways, hear_proposal_ways, hear_vote_ways, hear_ways}
@@ -65,7 +65,7 @@ pub record AtConsole (pit : Pit) (h : History blocks) (i : ℕ) (bodies : List B
   pub size : s.seat.n ≡ pit.n
   pub own : s.seat.own ≡ i
   pub store : s.store ≡ s.marks
-  pub ledger : Sound-ledger pit h bodies s.ledger
+  pub ledger : SoundLedger pit h bodies s.ledger
 
 -- How lock and voted move: by a vote alone, upwards.
 abbrev pub MarksMove : Option Body → Marks → Marks → Type 0
@@ -92,16 +92,16 @@ no_vote j k e =
 
 module _ (pit : Pit) (h : History blocks) (i : ℕ) (inside : i < pit.n) (sixteen : pit.n ≤ 16) (bodies : List Body) where
   -- nothing but the answer, the clock, the candidate and the last turn may change
-  only-good : (a : Answer) (s w : State) → AtConsole pit h i bodies s → w.seat ≡ s.seat → w.store ≡ w.marks → w.ledger ≡ s.ledger
+  only_good : (a : Answer) (s w : State) → AtConsole pit h i bodies s → w.seat ≡ s.seat → w.store ≡ w.marks → w.ledger ≡ s.ledger
       → w.marks.voted ≡ s.marks.voted → w.marks.lock ≡ s.marks.lock → GoodStep pit h i bodies s (only a w)
-  only-good a s w c seat store ledger voted lock = record {
+  only_good a s w c seat store ledger voted lock = record {
     after = record {
       size = ap (λ x. x.n) seat ∙ c.size;
       own = ap (λ x. x.own) seat ∙ c.own;
       store = store;
       ledger =
-          subst (λ (bs : List Body). Sound-ledger pit h bs w.ledger) (sym (append-nil bodies))
-          (subst (Sound-ledger pit h bodies) (sym ledger) c.ledger);
+          subst (λ (bs : List Body). SoundLedger pit h bs w.ledger) (sym (append-nil bodies))
+          (subst (SoundLedger pit h bodies) (sym ledger) c.ledger);
     };
     marks = (voted, lock);
     sealed = λ k e. absent (votes_for k) e;
@@ -110,37 +110,37 @@ module _ (pit : Pit) (h : History blocks) (i : ℕ) (inside : i < pit.n) (sixtee
   }
 
   same_good : (a : Answer) (s : State) → AtConsole pit h i bodies s → GoodStep pit h i bodies s (only a s)
-  same_good a s c = only-good a s s c refl c.store refl refl refl
+  same_good a s c = only_good a s s c refl c.store refl refl refl
 
   -- settling in a console's seat
-  settled-in : (s : State) (g : Ledger) → AtConsole pit h i bodies s → Sound-ledger pit h bodies g
-      → Sound-ledger pit h (bodies ++ (settle s.seat.n g).handed) (settle s.seat.n g).ledger
-  settled-in s g c l =
-      subst (λ (n : ℕ). Sound-ledger pit h (bodies ++ (settle n g).handed) (settle n g).ledger) (sym c.size) (settle-sound pit h bodies g l)
+  settled_in : (s : State) (g : Ledger) → AtConsole pit h i bodies s → SoundLedger pit h bodies g
+      → SoundLedger pit h (bodies ++ (settle s.seat.n g).handed) (settle s.seat.n g).ledger
+  settled_in s g c l =
+      subst (λ (n : ℕ). SoundLedger pit h (bodies ++ (settle n g).handed) (settle n g).ledger) (sym c.size) (settle_sound pit h bodies g l)
 
   -- a vote that was cast enters the tally
-  entered-in : (s : State) (k : Key) (voter : ℕ) (seal : List ℕ) → AtConsole pit h i bodies s → voter < pit.n
-      → (Sound pit voter → Voted blocks h voter k) → Sound-ledger pit h bodies (enter s.seat.n k voter seal s.ledger)
-  entered-in s k voter seal c l v =
-      subst (λ (n : ℕ). Sound-ledger pit h bodies (enter n k voter seal s.ledger)) (sym c.size)
-      (enter-sound pit h bodies k voter seal s.ledger l v c.ledger)
+  entered_in : (s : State) (k : Key) (voter : ℕ) (seal : List ℕ) → AtConsole pit h i bodies s → voter < pit.n
+      → (Sound pit voter → Voted blocks h voter k) → SoundLedger pit h bodies (enter s.seat.n k voter seal s.ledger)
+  entered_in s k voter seal c l v =
+      subst (λ (n : ℕ). SoundLedger pit h bodies (enter n k voter seal s.ledger)) (sym c.size)
+      (enter_sound pit h bodies k voter seal s.ledger l v c.ledger)
 
   -- ---- votes
 
-  vote-good : (b : Block) (seal : List ℕ) (s : State) → AtConsole pit h i bodies s → candidate_block s ≡ Some b
+  vote_good : (b : Block) (seal : List ℕ) (s : State) → AtConsole pit h i bodies s → candidate_block s ≡ Some b
       → may_vote s.marks s.view b.body.parent.view ≡ true → Told pit h i (vote_for b seal s)
       → GoodStep pit h i bodies s (vote_for b seal s)
   unfolding vote_for
-  vote-good b seal s c e may told =
+  vote_good b seal s c e may told =
       let on = candidate_on s b e in
       let f = may_vote_facts s.marks s.view b.body.parent.view may in
       let sb = c.ledger.shelf b on.0 in
-      let k = block-named pit h b sb in
+      let k = block_named pit h b sb in
       let cast : Voted blocks h i (block_key b) = (b.body, told.ballot b.body refl, k) in
-      let entered = entered-in s (block_key b) s.seat.own seal c (subst (λ (j : ℕ). j < pit.n) (sym c.own) inside)
+      let entered = entered_in s (block_key b) s.seat.own seal c (subst (λ (j : ℕ). j < pit.n) (sym c.own) inside)
       (λ _. subst (λ (j : ℕ). Voted blocks h j (block_key b)) (sym c.own) cast) in
       record {
-        after = record { size = c.size; own = c.own; store = refl; ledger = settled-in s _ c entered };
+        after = record { size = c.size; own = c.own; store = refl; ledger = settled_in s _ c entered };
         marks = (subst (λ (v : ℕ). s.marks.voted < v) (sym on.1) f.0, f.1, sym on.1, refl);
         sealed = λ j q. (b.body, refl, k ∙ sealed_key (block_key b) j q);
         ballot = λ x q. subst (λ (y : Body). Among y h.shown × Backed blocks (consoles pit) h y.parent) (same_some b.body x q) (sb.shown, sb.backed);
@@ -150,22 +150,22 @@ module _ (pit : Pit) (h : History blocks) (i : ℕ) (inside : i < pit.n) (sixtee
   -- ---- proposals
 
   -- the block of a body that may be shown, put on the shelf
-  body-placed : (body : Body) (g : Ledger) → Among body h.shown → body.parent.view < body.view
-      → Backed blocks (consoles pit) h body.parent → Sound-ledger pit h bodies g
-      → Sound-ledger pit h bodies (placed (fresh body (body_name body)) g)
-  body-placed body g m l k s =
-      placed-sound pit h bodies (fresh body (body_name body)) g (fresh-sound pit h body m l k) s
+  body_placed : (body : Body) (g : Ledger) → Among body h.shown → body.parent.view < body.view
+      → Backed blocks (consoles pit) h body.parent → SoundLedger pit h bodies g
+      → SoundLedger pit h bodies (placed (fresh body (body_name body)) g)
+  body_placed body g m l k s =
+      placed_sound pit h bodies (fresh body (body_name body)) g (fresh_sound pit h body m l k) s
 
-  propose-good : (s : State) (body : Body) (seal : List ℕ) → AtConsole pit h i bodies s → body.parent ≡ s.ledger.top.block
+  propose_good : (s : State) (body : Body) (seal : List ℕ) → AtConsole pit h i bodies s → body.parent ≡ s.ledger.top.block
       → body.parent.view < body.view → Told pit h i (propose_body body seal s) → GoodStep pit h i bodies s (propose_body body seal s)
   unfolding propose_body
-  propose-good s body seal c p l told =
+  propose_good s body seal c p l told =
       let backed : Backed blocks (consoles pit) h body.parent = subst (Backed blocks (consoles pit) h) (sym p) c.ledger.top in
-      let g : Sound-ledger pit h bodies (placed_if_new body s.ledger) =
-      cond_both (is_held (body_key body) s.ledger.shelf) _ _ (Sound-ledger pit h bodies) (λ _. c.ledger)
-      (λ _. body-placed body s.ledger (told.shown body refl) l backed c.ledger) in
+      let g : SoundLedger pit h bodies (placed_if_new body s.ledger) =
+      cond_both (is_held (body_key body) s.ledger.shelf) _ _ (SoundLedger pit h bodies) (λ _. c.ledger)
+      (λ _. body_placed body s.ledger (told.shown body refl) l backed c.ledger) in
       record {
-        after = record { size = c.size; own = c.own; store = c.store; ledger = settled-in s _ c g };
+        after = record { size = c.size; own = c.own; store = c.store; ledger = settled_in s _ c g };
         marks = (refl, refl);
         sealed = λ k e. no_vote (body_key body) k e;
         ballot = λ b e. absent b e;
@@ -175,11 +175,11 @@ module _ (pit : Pit) (h : History blocks) (i : ℕ) (inside : i < pit.n) (sixtee
   -- ---- messages
 
   -- a certificate that stands, its signers' votes being in the history
-  certificate-backed : (table : Table) (s : State) (p : Proposal) → AtConsole pit h i bodies s → ReadProposal pit.n p
+  certificate_backed : (table : Table) (s : State) (p : Proposal) → AtConsole pit h i bodies s → ReadProposal pit.n p
       → certificate_stands table s.seat.n p.certificate ≡ true → Told pit h i (take_up p s)
       → Backed blocks (consoles pit) h p.certificate.block
   unfolding take_up
-  certificate-backed table s p c r e told =
+  certificate_backed table s p c r e told =
       ⊎_elim
       (λ z. inl (r.on_origin (eqb-true _ _ z)))
       (λ q.
@@ -194,15 +194,15 @@ module _ (pit : Pit) (h : History blocks) (i : ℕ) (inside : i < pit.n) (sixtee
       }))
       (or_cases (eqb p.certificate.block.view 0) _ e)
 
-  take-up-good : (table : Table) (s : State) (p : Proposal) → AtConsole pit h i bodies s → ReadProposal pit.n p
+  take_up_good : (table : Table) (s : State) (p : Proposal) → AtConsole pit h i bodies s → ReadProposal pit.n p
       → certificate_stands table s.seat.n p.certificate ≡ true → Told pit h i (take_up p s)
       → GoodStep pit h i bodies s (take_up p s)
   unfolding take_up
-  take-up-good table s p c r e told =
-      let backed = certificate-backed table s p c r e told in
+  take_up_good table s p c r e told =
+      let backed = certificate_backed table s p c r e told in
       let parent = subst (Backed blocks (consoles pit) h) r.names_parent backed in
-      let g = with-top-sound pit h bodies p.certificate _ backed (body-placed p.body s.ledger (told.shown p.body refl) r.above parent c.ledger) in
-      let after = settled-in s _ c g in
+      let g = with_top_sound pit h bodies p.certificate _ backed (body_placed p.body s.ledger (told.shown p.body refl) r.above parent c.ledger) in
+      let after = settled_in s _ c g in
       record {
         after = cond_both (eqb p.body.view s.view) _ _ (AtConsole pit h i _)
             (λ _. record { size = c.size; own = c.own; store = c.store; ledger = after })
@@ -213,14 +213,14 @@ module _ (pit : Pit) (h : History blocks) (i : ℕ) (inside : i < pit.n) (sixtee
         shown = λ b q. subst (λ (x : Body). x.parent.view < x.view) (same_some p.body b q) r.above;
       }
 
-  count-good : (s : State) (v : Vote) → AtConsole pit h i bodies s → v.voter < pit.n → Told pit h i (count_vote v s)
+  count_good : (s : State) (v : Vote) → AtConsole pit h i bodies s → v.voter < pit.n → Told pit h i (count_vote v s)
       → GoodStep pit h i bodies s (count_vote v s)
   unfolding count_vote
-  count-good s v c l told =
-      let entered = entered-in s v.block v.voter v.seal c l
+  count_good s v c l told =
+      let entered = entered_in s v.block v.voter v.seal c l
       (λ sound. told.relied v.voter v.block sound (Memᴰ.head refl)) in
       record {
-        after = record { size = c.size; own = c.own; store = c.store; ledger = settled-in s _ c entered };
+        after = record { size = c.size; own = c.own; store = c.store; ledger = settled_in s _ c entered };
         marks = (refl, refl);
         sealed = λ k q. absent (votes_for k) q;
         ballot = λ b q. absent b q;
@@ -232,35 +232,35 @@ module _ (pit : Pit) (h : History blocks) (i : ℕ) (inside : i < pit.n) (sixtee
   abbrev Good : State → Outcome → Type 0
   Good s o = Told pit h i o → GoodStep pit h i bodies s o
 
-  clocked-at : (s : State) (t : ℕ) → AtConsole pit h i bodies s → AtConsole pit h i bodies (clocked s t)
-  clocked-at s t c = record { size = c.size; own = c.own; store = c.store; ledger = c.ledger }
+  clocked_at : (s : State) (t : ℕ) → AtConsole pit h i bodies s → AtConsole pit h i bodies (clocked s t)
+  clocked_at s t c = record { size = c.size; own = c.own; store = c.store; ledger = c.ledger }
 
   -- the clock is no part of what a step keeps
   unclocked : (s : State) (t : ℕ) (o : Outcome) → GoodStep pit h i bodies (clocked s t) o → GoodStep pit h i bodies s o
   unclocked s t o g = record { after = g.after; marks = g.marks; sealed = g.sealed; ballot = g.ballot; shown = g.shown }
 
   -- every call but opening
-  pub step-good : (table : Table) (seal : List ℕ) (s : State) (call : Call) → is_opening call ≡ false → AtConsole pit h i bodies s
+  pub step_good : (table : Table) (seal : List ℕ) (s : State) (call : Call) → is_opening call ≡ false → AtConsole pit h i bodies s
       → Told pit h i (step table seal s call) → GoodStep pit h i bodies s (step table seal s call)
-  step-good table seal s (opening slots) e c = absurd (both_ways true e refl)
-  step-good table seal s (ticking t) e c =
+  step_good table seal s (opening slots) e c = absurd (both_ways true e refl)
+  step_good table seal s (ticking t) e c =
       tick_ways seal s t (Good s)
       (λ r _ _. same_good _ s c)
       (λ _ _.
       turn_ways (clocked s t) (Good s)
-      (λ _ _. only-good _ s _ c refl refl refl refl refl)
-      (λ _ _. only-good _ s _ c refl c.store refl refl refl))
+      (λ _ _. only_good _ s _ c refl refl refl refl refl)
+      (λ _ _. only_good _ s _ c refl c.store refl refl refl))
       (λ _ _.
       vote_ways seal (clocked s t) (Good s)
-      (λ b on may told. unclocked s t _ (vote-good b seal (clocked s t) (clocked-at s t c) on may told))
-      (λ b _ _ _. only-good _ s _ c refl c.store refl refl refl)
-      (λ _ _. only-good _ s _ c refl c.store refl refl refl))
-  step-good table seal s (proposing owed orders space) e c =
+      (λ b on may told. unclocked s t _ (vote_good b seal (clocked s t) (clocked_at s t c) on may told))
+      (λ b _ _ _. only_good _ s _ c refl c.store refl refl refl)
+      (λ _ _. only_good _ s _ c refl c.store refl refl refl))
+  step_good table seal s (proposing owed orders space) e c =
       propose_ways seal s owed orders space (Good s)
       (λ r _ _. same_good _ s c)
-      (λ g. propose-good s (body_on_top s owed orders) seal c refl (propose_stands s owed orders space g).above_top)
-  step-good table seal s (passing owed) e c = λ _. same_good _ s c
-  step-good table seal s (hearing bytes) e c =
+      (λ g. propose_good s (body_on_top s owed orders) seal c refl (propose_stands s owed orders space g).above_top)
+  step_good table seal s (passing owed) e c = λ _. same_good _ s c
+  step_good table seal s (hearing bytes) e c =
       hear_ways table s bytes (Good s)
       (λ _ _. same_good _ s c)
       (λ u _ _ _. same_good _ s c)
@@ -269,11 +269,11 @@ module _ (pit : Pit) (h : History blocks) (i : ℕ) (inside : i < pit.n) (sixtee
       hear_proposal_ways table s p (Good s)
       (λ _ _ _. same_good _ s c)
       (λ _ _ _. same_good _ s c)
-      (λ g _. take-up-good table s p c r (proposal_stands table s p g).certificate))
+      (λ g _. take_up_good table s p c r (proposal_stands table s p g).certificate))
       (λ v _ read.
       let r = subst (λ (n : ℕ). ReadVote n v) c.size (read_vote s.seat.n bytes v read) in
       hear_vote_ways table s v (Good s)
       (λ _ _. same_good _ s c)
       (λ b _ _ _. same_good _ s c)
       (λ b _ _ _ _. same_good _ s c)
-      (λ b _ _ _. count-good s v c r.voter_below))
+      (λ b _ _ _. count_good s v c r.voter_below))

@@ -15,16 +15,16 @@ use Rattle.wire.proofs.Signing.{before, before_none, before-all, before_in, befo
 
 -- Bytes first: the seals spread out and packed again.
 module _ (set : ℕ) (ps : List ℕ) where
-  seal-of : (i : ℕ) → i < 16 → get_or (seals_in set ps) i [] ≡ seal_in set ps i
+  seal_of : (i : ℕ) → i < 16 → get_or (seals_in set ps) i [] ≡ seal_in set ps i
   unfolding seals_in
-  seal-of i h = get_or-map-range_with_len (seal_in set ps) 0 16 i i [] h (omega arith)
+  seal_of i h = get_or-map-range_with_len (seal_in set ps) 0 16 i i [] h (omega arith)
 
-  packed-back : (i : ℕ) → i ≤ 16 → packed_below i set (seals_in set ps) ≡ take (16 * before set i) ps
+  packed_back : (i : ℕ) → i ≤ 16 → packed_below i set (seals_in set ps) ≡ take (16 * before set i) ps
   unfolding packed_below
-  packed-back zero h = sym (ap (λ (n : ℕ). take (16 * n) ps) (before_none set))
-  packed-back (suc i) h =
-      let ih = packed-back i (omega arith) in
-      let here = seal-of i (omega arith) in
+  packed_back zero h = sym (ap (λ (n : ℕ). take (16 * n) ps) (before_none set))
+  packed_back (suc i) h =
+      let ih = packed_back i (omega arith) in
+      let here = seal_of i (omega arith) in
       cond_both (signed set i) (get_or (seals_in set ps) i []) [] (λ (l : List ℕ). packed_below i set (seals_in set ps) ++ l ≡ take (16 * before set (suc i)) ps)
       (λ s.
       let in_set : seal_in set ps i ≡ field (16 * before set i) 16 ps = rw s in
@@ -32,8 +32,8 @@ module _ (set : ℕ) (ps : List ℕ) where
       (λ j. ih j ++ (here ∙ in_set) j) ∙ (sym (take-add (16 * before set i) 16 ps) ∙ ap (λ (m : ℕ). take m ps) n))
       (λ s. append-nil _ ∙ (ih ∙ ap (λ (m : ℕ). take (16 * m) ps) (sym (subst (λ (j : ℕ). before set j ≡ before set i) (add-one i) (before_out set i s)))))
 
-pub set-below : (at : ℕ) (bs : List ℕ) → Octets bs → at + 2 ≤ length bs → number at 2 bs < 65536
-set-below at bs o h =
+pub set_below : (at : ℕ) (bs : List ℕ) → Octets bs → at + 2 ≤ length bs → number at 2 bs < 65536
+set_below at bs o h =
     let len : length (field at 2 bs) ≡ 2 = simp (length-take, length-drop) (omega arith) in
     subst (λ (n : ℕ). number at 2 bs < 256 ^ n) len (num_below (field at 2 bs) (All-take (λ (b : ℕ). b < 256) 2 (drop at bs) (All-drop (λ (b : ℕ). b < 256) at bs o)))
 
@@ -42,10 +42,10 @@ unfolding certificate_in certificate_bytes
 certificate_back bs h o m =
     let set : ℕ = number 38 2 bs in
     let two = be_field 38 2 bs o (omega arith) in
-    let small = set-below 38 bs o (omega arith) in
+    let small = set_below 38 bs o (omega arith) in
     let all = before-all (number 38 2 bs) small in
     let rest : length (drop 40 bs) ≤ 16 * before (number 38 2 bs) 16 = simp length-drop (omega arith) in
-    let seals = packed-back (number 38 2 bs) (drop 40 bs) 16 (omega arith) ∙ take_all _ _ rest in
+    let seals = packed_back (number 38 2 bs) (drop 40 bs) 16 (omega arith) ∙ take_all _ _ rest in
     let key = key_back 2 bs o (omega arith) in
     (λ i. mark_is (codes "CT") bs m i ++ (key_bytes (key_at 2 bs) ++ (two i ++ seals i))) ∙
     sym (cut 0 2 bs ∙ ap (λ (l : List ℕ). take 2 bs ++ l)
@@ -76,22 +76,22 @@ module _ (c : Certificate) (h : CertificateFits c) where
       ap (field (16 * before c.signers.set i) 16) all ∙
       (ap (take 16) (drop_at front (seal ++ more.0) _ size) ∙ take_at seal more.0 16 (h.seals i l))
 
-  seals-forth : seals_in c.signers.set (packed c.signers) ≡ c.signers.seals
+  seals_forth : seals_in c.signers.set (packed c.signers) ≡ c.signers.seals
   unfolding seals_in
-  seals-forth =
+  seals_forth =
       sym (fill_by_all (seal_in c.signers.set (packed c.signers)) c.signers.seals 16 [] h.sixteen
       (λ k l. sym (cond_both (signed c.signers.set k) (field (16 * before c.signers.set k) 16 (packed c.signers)) no_seal (λ (x : List ℕ). x ≡ get_or c.signers.seals k [])
       (λ s. found k l s) (λ s. sym (h.absent k l s)))))
 
-  pub certificate-forth : certificate_in (certificate_bytes c) ≡ c
+  pub certificate_forth : certificate_in (certificate_bytes c) ≡ c
   unfolding be num certificate_bytes certificate_in
-  certificate-forth =
+  certificate_forth =
       let x : List ℕ = be 2 c.signers.set ++ packed c.signers in
       let name = take_at c.block.name x 32 h.block.name in
       let past : drop 32 (c.block.name ++ x) ≡ x = drop_at c.block.name x 32 h.block.name in
       let rest : drop 34 (c.block.name ++ x) ≡ packed c.signers = sym (drop-drop 2 32 (c.block.name ++ x)) ∙ ap (drop 2) past in
       let set : number 32 2 (c.block.name ++ x) ≡ c.signers.set = ap (λ (l : List ℕ). num (take 2 l)) past ∙ num_be 2 c.signers.set h.set in
-      let seals = (λ i. seals_in (set i) (rest i)) ∙ seals-forth in
+      let seals = (λ i. seals_in (set i) (rest i)) ∙ seals_forth in
       λ i. record {
         block = record { view = num_be 4 c.block.view h.block.view i; name = name i };
         signers = record { set = set i; seals = seals i };

@@ -18,7 +18,7 @@ use Rattle.wire.specs.declared.message.Message.TheVariants as message
 use Rattle.wire.specs.declared.message.Proposal.{Proposal}
 use Rattle.wire.specs.declared.message.Vote.{Vote}
 use Rattle.wire.specs.declared.statement.Purpose.{Purpose}
-use Rattle.wire.specs.declared.statement.Purpose.TheVariants.{Propose, Vote as Vote-for}
+use Rattle.wire.specs.declared.statement.Purpose.TheVariants.{Propose, Vote as VoteFor}
 use Rattle.wire.specs.declared.statement.Statement.{Statement}
 use Rattle.wire.specs.declared.unreadable.Unreadable.{Unreadable}
 use Rattle.wire.proofs.Bodies.{body_forth, body_back, cut, be_field, key_back, mark_is}
@@ -27,7 +27,7 @@ use Rattle.wire.proofs.Proposals.{fit, read-stands, vote-read, body-whole, certi
 use Rattle.wire.proofs.Sequences.{length-orders_in}
 use Rattle.wire.proofs.Signing.{before-all, packed_size}
 use Rattle.wire.proofs.Sizes.{length-proposal, length_body, length-certificate, length-key}
-use Rattle.wire_laws.proofs.Certificates.{certificate-forth, certificate_back, set-below}
+use Rattle.wire_laws.proofs.Certificates.{certificate_forth, certificate_back, set_below}
 
 -- a field of the front part
 field_front : (at len : ℕ) (a b : List ℕ) → at + len ≤ length a → field at len (a ++ b) ≡ field at len a
@@ -44,9 +44,9 @@ count_written b h =
 body_size : (b : Body) → BodyFits b → length (body_bytes b) ≡ 43 + 8 * length (orders_of b.orders)
 body_size b h = length_body b (length-key b.parent h.parent.name)
 
-set-written : (c : Certificate) → CertificateFits c → number 38 2 (certificate_bytes c) ≡ c.signers.set
+set_written : (c : Certificate) → CertificateFits c → number 38 2 (certificate_bytes c) ≡ c.signers.set
 unfolding certificate_in
-set-written c h = ap (λ (x : Certificate). x.signers.set) (certificate-forth c h)
+set_written c h = ap (λ (x : Certificate). x.signers.set) (certificate_forth c h)
 
 certificate_size : (c : Certificate) → CertificateFits c → length (certificate_bytes c) ≡ 40 + 16 * ones c.signers.set
 certificate_size c h =
@@ -61,9 +61,9 @@ unfolding body_bytes certificate_bytes
 marks_written b c = refl
 
 module _ (n : ℕ) (p : Proposal) (h : ProposalFits p) (s : proposal_stands n p ≡ true) where
-  proposal-forth : read n (message_bytes (message.Proposal p)) ≡ Ok (message.Proposal p)
+  proposal_forth : read n (message_bytes (message.Proposal p)) ≡ Ok (message.Proposal p)
   unfolding read message_bytes proposal_bytes
-  proposal-forth =
+  proposal_forth =
       let x : List ℕ = body_bytes p.body in
       let y : List ℕ = certificate_bytes p.certificate in
       let z : List ℕ = y ++ p.seal in
@@ -81,18 +81,18 @@ module _ (n : ℕ) (p : Proposal) (h : ProposalFits p) (s : proposal_stands n p 
       let rest : take (length (x ++ z) - (43 + 8 * k)) (drop (43 + 8 * k) (x ++ z)) ≡ z =
       ap (take (length (x ++ z) - (43 + 8 * k))) past ∙ take_all _ z (omega arith) in
       let set : p.certificate.signers.set ≡ number 38 2 (take (length (x ++ z) - (43 + 8 * k)) (drop (43 + 8 * k) (x ++ z))) =
-      sym (ap (number 38 2) rest ∙ (ap num (field_front 38 2 y p.seal (omega arith)) ∙ set-written p.certificate h.certificate)) in
+      sym (ap (number 38 2) rest ∙ (ap num (field_front 38 2 y p.seal (omega arith)) ∙ set_written p.certificate h.certificate)) in
       let lengths = fit (x ++ z) k is few (omega arith) p.certificate.signers.set o set refl most (ap length rest ∙ omega arith) in
       sym (read-stands (x ++ z) (43 + 8 * k) (40 + 16 * o) lengths x y p.seal
       (sym (take_at x z (43 + 8 * k) xl))
       (sym (ap (take (40 + 16 * o)) past ∙ take_at y p.seal (40 + 16 * o) yl))
       (sym (ap (drop (40 + 16 * o)) past ∙ drop_at y p.seal (40 + 16 * o) yl))
-      n p (sym (body_forth p.body h.body)) (sym (certificate-forth p.certificate h.certificate)) refl (marks_written p.body p.certificate) s)
+      n p (sym (body_forth p.body h.body)) (sym (certificate_forth p.certificate h.certificate)) refl (marks_written p.body p.certificate) s)
 
 module _ (n : ℕ) (v : Vote) (h : VoteFits v) (s : vote_stands n v ≡ true) where
-  vote-forth : read n (message_bytes (message.Vote v)) ≡ Ok (message.Vote v)
+  vote_forth : read n (message_bytes (message.Vote v)) ≡ Ok (message.Vote v)
   unfolding read message_bytes vote_bytes be num
-  vote-forth =
+  vote_forth =
       let x : List ℕ = be 1 v.voter ++ v.seal in
       let bs : List ℕ = key_bytes v.block ++ x in
       let kl = length-key v.block h.block.name in
@@ -106,8 +106,8 @@ module _ (n : ℕ) (v : Vote) (h : VoteFits v) (s : vote_stands n v ≡ true) wh
       sym (vote-read n bs (omega arith) v block voter last s)
 
 pub message_forth : (n : ℕ) (m : Message) → WellFormed n m → read n (message_bytes m) ≡ Ok m
-message_forth n (message.Proposal p) h = proposal-forth n p h.0 h.1
-message_forth n (message.Vote v) h = vote-forth n v h.0 h.1
+message_forth n (message.Proposal p) h = proposal_forth n p h.0 h.1
+message_forth n (message.Vote v) h = vote_forth n v h.0 h.1
 
 -- Bytes first.
 
@@ -118,7 +118,7 @@ lengths_of bs o f =
     let few : number 42 1 bs ≤ 8 = grind (arith, nat_tests) in
     let long : 40 ≤ length (past_body bs) = grind (arith, nat_tests) in
     let whole : length (past_body bs) ≡ certificate_length (past_body bs) + 16 = grind (arith, nat_tests) in
-    let most = ones-le 16 (number 38 2 (past_body bs)) (set-below 38 (past_body bs) (All-drop (λ (k : ℕ). k < 256) (body_length bs) bs o) (omega arith)) in
+    let most = ones-le 16 (number 38 2 (past_body bs)) (set_below 38 (past_body bs) (All-drop (λ (k : ℕ). k < 256) (body_length bs) bs o) (omega arith)) in
     (f, refl, refl, few, omega arith, whole, omega arith)
 
 proposal_back : (n : ℕ) (bs : List ℕ) → Octets bs → proposal_fits bs ≡ true → inner_marks bs ≡ true → proposal_stands n (proposal_in bs) ≡ true → proposal_bytes (proposal_in bs) ≡ codes "PR" ++ bs
@@ -178,13 +178,13 @@ body_by_bytes a b h k e = sym (body_forth a h) ∙ (ap body_in e ∙ body_forth 
 -- the marks of the two purposes differ
 purpose_by_mark : (p q : Purpose) → purpose_mark p ≡ purpose_mark q → p ≡ q
 purpose_by_mark Propose Propose e = refl
-purpose_by_mark Propose Vote-for e = let z : ◌≡◌ {A = ℕ} 80 86 = ap (λ (l : List ℕ). get_or l 0 0) e in absurd (omega arith)
-purpose_by_mark Vote-for Propose e = let z : ◌≡◌ {A = ℕ} 86 80 = ap (λ (l : List ℕ). get_or l 0 0) e in absurd (omega arith)
-purpose_by_mark Vote-for Vote-for e = refl
+purpose_by_mark Propose VoteFor e = let z : ◌≡◌ {A = ℕ} 80 86 = ap (λ (l : List ℕ). get_or l 0 0) e in absurd (omega arith)
+purpose_by_mark VoteFor Propose e = let z : ◌≡◌ {A = ℕ} 86 80 = ap (λ (l : List ℕ). get_or l 0 0) e in absurd (omega arith)
+purpose_by_mark VoteFor VoteFor e = refl
 
 mark_size : (p : Purpose) → length (purpose_mark p) ≡ 2
 mark_size Propose = refl
-mark_size Vote-for = refl
+mark_size VoteFor = refl
 
 key_forth : (k : Key) → KeyFits k → key_at 0 (key_bytes k) ≡ k
 unfolding be num

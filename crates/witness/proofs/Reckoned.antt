@@ -73,14 +73,14 @@ module _ (v later inner : ℕ) where
   stretch : five_views ≡ take later five_views ++ (ticks (2 * v + 4) 0 ∷ up_to)
       → up_to ≡ take inner up_to ++ (ticks (2 * v) 0 ∷ prior)
       → T (nowhere (2 * v + 4) (run pit up_to)) → T (nowhere (2 * v) (run pit prior)) → Stretch five_views v
-  stretch ends begins no-close no_start =
+  stretch ends begins no_close no_start =
       record {
         rest = take later five_views;
         close = ticks (2 * v + 4) 0;
         run = up_to;
         ends = ends;
         close_tick = refl;
-        first_close = nowhere_is pit (2 * v + 4) up_to no-close;
+        first_close = nowhere_is pit (2 * v + 4) up_to no_close;
         within = take inner up_to;
         start = ticks (2 * v) 0;
         before = prior;

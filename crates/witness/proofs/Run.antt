@@ -41,19 +41,19 @@ abbrev pub entry : Pit → Line → Sheet → Entry
 entry pit l earlier = record { line = l; outcome = done pit l earlier }
 
 module _ (pit : Pit) where
-  pub state-run : (i : ℕ) (ls : Sheet) → state_in i (run pit ls) ≡ state_at pit i ls
+  pub state_run : (i : ℕ) (ls : Sheet) → state_in i (run pit ls) ≡ state_at pit i ls
   unfolding run state_in state_at
-  state-run i [] = refl
-  state-run i (l ∷ ls) =
-      let here = state-run i ls in
-      let there = state-run l.console ls in
+  state_run i [] = refl
+  state_run i (l ∷ ls) =
+      let here = state_run i ls in
+      let there = state_run l.console ls in
       grind (arith, nat_tests)
 
-  pub run-cons : (l : Line) (ls : Sheet) → run pit (l ∷ ls) ≡ entry pit l ls ∷ run pit ls
+  pub run_cons : (l : Line) (ls : Sheet) → run pit (l ∷ ls) ≡ entry pit l ls ∷ run pit ls
   unfolding run
-  run-cons l ls =
+  run_cons l ls =
       let made : Option State → Trace = λ s. record { line = l; outcome = advance pit l s } ∷ run pit ls in
-      ap made (state-run l.console ls)
+      ap made (state_run l.console ls)
 
   pub length_run : (ls : Sheet) → length (run pit ls) ≡ length ls
   unfolding run
@@ -65,7 +65,7 @@ module _ (pit : Pit) where
   chain_run i [] = refl
   chain_run i (l ∷ ls) =
       let here = chain_run i ls in
-      let there = state-run l.console ls in
+      let there = state_run l.console ls in
       cc
 
 -- Tests of an entry together with the entries before it.
@@ -82,20 +82,20 @@ abbrev pub Passes : (Entry → Trace → Bool) → Pit → {sheet : Sheet} → S
 Passes f pit p = T (f (entry pit p.line p.earlier) (run pit p.earlier))
 
 module _ (pit : Pit) (f : Entry → Trace → Bool) where
-  every-cons : (l : Line) (ls : Sheet) → T (every f (run pit (l ∷ ls)))
+  every_cons : (l : Line) (ls : Sheet) → T (every f (run pit (l ∷ ls)))
       → T (f (entry pit l ls) (run pit ls)) × T (every f (run pit ls))
   unfolding every
-  every-cons l ls t =
-      both (f (entry pit l ls) (run pit ls)) (every f (run pit ls)) (subst (λ es. T (every f es)) (run-cons pit l ls) t)
+  every_cons l ls t =
+      both (f (entry pit l ls) (run pit ls)) (every f (run pit ls)) (subst (λ es. T (every f es)) (run_cons pit l ls) t)
 
-  every-later : (later : Sheet) (l : Line) (ls : Sheet) → T (every f (run pit (later ++ (l ∷ ls))))
+  every_later : (later : Sheet) (l : Line) (ls : Sheet) → T (every f (run pit (later ++ (l ∷ ls))))
       → T (f (entry pit l ls) (run pit ls))
-  every-later [] l ls t = (every-cons l ls t).0
-  every-later (x ∷ later) l ls t = every-later later l ls (every-cons x (later ++ (l ∷ ls)) t).1
+  every_later [] l ls t = (every_cons l ls t).0
+  every_later (x ∷ later) l ls t = every_later later l ls (every_cons x (later ++ (l ∷ ls)) t).1
 
   pub at_every : {sheet : Sheet} → T (every f (run pit sheet)) → (p : Spot sheet) → Passes f pit p
   at_every t p =
-      every-later p.later p.line p.earlier (subst (λ ls. T (every f (run pit ls))) p.here t)
+      every_later p.later p.line p.earlier (subst (λ ls. T (every f (run pit ls))) p.here t)
 
   -- a spot of the older lines, seen from the newer ones
   further : {l : Line} {ls : Sheet} → Spot ls → Spot (l ∷ ls)
@@ -105,7 +105,7 @@ module _ (pit : Pit) (f : Entry → Trace → Bool) where
   unfolding some run further
   at_some [] t = absurd t
   at_some (l ∷ ls) t =
-      let here = subst (λ es. T (some f es)) (run-cons pit l ls) t in
+      let here = subst (λ es. T (some f es)) (run_cons pit l ls) t in
       found (either (f (entry pit l ls) (run pit ls)) (some f (run pit ls)) here) (at_some ls)
     where
       found : T (f (entry pit l ls) (run pit ls)) ⊎ T (some f (run pit ls))

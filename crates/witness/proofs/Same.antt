@@ -127,11 +127,11 @@ pub body_is : (a b : Body) → T (same_body a b) → a ≡ b
 body_is a b t =
     let parts = both (eqb a.view b.view) (same_key a.parent b.parent && same_orders a.orders b.orders) t in
     let more = both (same_key a.parent b.parent) (same_orders a.orders b.orders) parts.1 in
-    let both-orders = both (eqb a.orders.count b.orders.count) (same_list a.orders.list b.orders.list) more.1 in
+    let both_orders = both (eqb a.orders.count b.orders.count) (same_list a.orders.list b.orders.list) more.1 in
     let view = eqb→eq a.view b.view parts.0 in
     let parent = key_is a.parent b.parent more.0 in
-    let count = eqb→eq a.orders.count b.orders.count both-orders.0 in
-    let list = list_is a.orders.list b.orders.list both-orders.1 in
+    let count = eqb→eq a.orders.count b.orders.count both_orders.0 in
+    let list = list_is a.orders.list b.orders.list both_orders.1 in
     λ i. record { view = view i; parent = parent i; orders = record { list = list i; count = count i } }
 
 pub body_among : (b : Body) (xs : List Body) → T (any_of (λ x. same_body x b) xs) → Memᴰ b xs

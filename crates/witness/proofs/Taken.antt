@@ -16,11 +16,11 @@ module _ (i signer : ℕ) (b : Body) (k : Key) where
   abbrev vouched : Vouched
   vouched = record { signer = signer; statement = proposes k }
 
-  abbrev same-vouched : Vouched → Bool
-  same-vouched v = eqb v.signer signer && same_statement v.statement (proposes k)
+  abbrev same_vouched : Vouched → Bool
+  same_vouched v = eqb v.signer signer && same_statement v.statement (proposes k)
 
-  vouched-is : (v : Vouched) → T (same-vouched v) → v ≡ vouched
-  vouched-is v t =
+  vouched_is : (v : Vouched) → T (same_vouched v) → v ≡ vouched
+  vouched_is v t =
       let parts = both (eqb v.signer signer) (same_statement v.statement (proposes k)) t in
       let who = eqb→eq v.signer signer parts.0 in
       let what = statement_is v.statement (proposes k) parts.1 in
@@ -29,7 +29,7 @@ module _ (i signer : ℕ) (b : Body) (k : Key) where
   abbrev takes : Entry → Trace → Bool
   takes e es =
       eqb e.line.console i
-      && (is_some (λ x. same_body x b) (shown_in e.outcome) && any_of same-vouched (relied_in e.outcome))
+      && (is_some (λ x. same_body x b) (shown_in e.outcome) && any_of same_vouched (relied_in e.outcome))
 
   unfoldable pub taken : Trace → Bool
   taken es = some takes es
@@ -41,13 +41,13 @@ module _ (i signer : ℕ) (b : Body) (k : Key) where
       let found = at_some pit takes sheet t in
       let p : Spot sheet = found.0 in
       let shows : Bool = is_some (λ x. same_body x b) (shown_in (did pit p)) in
-      let relies : Bool = any_of same-vouched (relied_in (did pit p)) in
+      let relies : Bool = any_of same_vouched (relied_in (did pit p)) in
       let place = both (eqb p.line.console i) (shows && relies) found.1 in
       let parts = both shows relies place.1 in
       let shown = some_is (λ x. same_body x b) (shown_in (did pit p)) parts.0 in
-      let relied = one_of same-vouched (relied_in (did pit p)) parts.1 in
+      let relied = one_of same_vouched (relied_in (did pit p)) parts.1 in
       let named : Memᴰ vouched (relied_in (did pit p)) =
-      subst (λ v. Memᴰ v (relied_in (did pit p))) (vouched-is relied.0 relied.2) relied.1 in (
+      subst (λ v. Memᴰ v (relied_in (did pit p))) (vouched_is relied.0 relied.2) relied.1 in (
         p,
         eqb→eq p.line.console i place.0,
         record {
