@@ -1,5 +1,5 @@
 -- What was read, in words.
-use Rattle.std.proofs.Common.{◌≡◌, ℕ, ◌+◌, List, ◌++◌, length, drop, Ok, Err, codes, decimal, Result, sym, ap, append_assoc}
+use Rattle.std.proofs.Common.{◌≡◌, ℕ, List, ◌++◌, length, drop, Ok, Err, codes, decimal, Result, sym, ap, append_assoc}
 use Rattle.text.specs.Hexadecimal.{hex_written}
 use Rattle.wire.specs.Format.{body_name, orders_of}
 use Rattle.wire.specs.Parts.{PartsOf, message_of}

@@ -1,5 +1,7 @@
 // What the clerk says of messages and boards.
-pub mod boards;
+#![tactic(auto)]
+
+pub mod board_words;
 pub mod orders;
 pub mod readings;
 pub mod trial;

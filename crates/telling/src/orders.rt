@@ -3,10 +3,10 @@ ghost use Rattle.std.specs.Prelude.{◌≡◌, ◌++◌, map, string_bytes, code
 ghost use Rattle.telling.specs.Lists.{led};
 ghost use Rattle.telling.specs.Messages.{order_told, orders_told};
 
-use std::fmt;
+use std::alloc::AllocError;
 use wire::order::Order;
 
-fn write_order(text: &mut String, order: &Order) -> fmt::Result
+fn write_order(text: &mut String, order: &Order) -> Result<(), AllocError>
     ensures { OnOk result (string_bytes text.new ≡ string_bytes text.old ++ order_told order.now) }
 {
     match *order {
@@ -21,7 +21,7 @@ fn write_order(text: &mut String, order: &Order) -> fmt::Result
 }
 
 // Adds orders that follow another one.
-fn write_more_orders(text: &mut String, orders: &[Order]) -> fmt::Result
+fn write_more_orders(text: &mut String, orders: &[Order]) -> Result<(), AllocError>
     ensures { OnOk result (string_bytes text.new ≡ string_bytes text.old ++ led (codes ", ") (map order_told orders.now)) }
 {
     for order in orders {
@@ -32,7 +32,7 @@ fn write_more_orders(text: &mut String, orders: &[Order]) -> fmt::Result
 }
 
 // Adds orders, or `-` where there are none.
-pub fn write_orders(text: &mut String, orders: &[Order]) -> fmt::Result
+pub fn write_orders(text: &mut String, orders: &[Order]) -> Result<(), AllocError>
     ensures { OnOk result (string_bytes text.new ≡ string_bytes text.old ++ orders_told orders.now) }
 {
     match orders {

@@ -5,6 +5,7 @@ ghost use Rattle.telling.specs.Lists.{led};
 ghost use Rattle.telling.specs.Messages.{consoles, message_told, placed_told, proposal_told, reading_told, signers_told, vote_told};
 
 use crate::orders::write_orders;
+use std::alloc::AllocError;
 use std::fmt;
 use text::hex::Hex;
 use wire::message::{Proposal, Vote};
@@ -24,7 +25,7 @@ impl fmt::Display for Placed<'_> {
 }
 
 // Adds a console's number after a space, if the console is in the set.
-fn write_signer(text: &mut String, set: u16, console: u16) -> fmt::Result
+fn write_signer(text: &mut String, set: u16, console: u16) -> Result<(), AllocError>
     requires { console < 16 }
     ensures { OnOk result (string_bytes text.new ≡ string_bytes text.old ++ (if signed set console then codes " " ++ decimal console else [])) }
 {
@@ -36,7 +37,7 @@ fn write_signer(text: &mut String, set: u16, console: u16) -> fmt::Result
 }
 
 // Adds the consoles of a set, by rising number.
-fn write_each_signer(text: &mut String, set: u16) -> fmt::Result
+fn write_each_signer(text: &mut String, set: u16) -> Result<(), AllocError>
     ensures { OnOk result (string_bytes text.new ≡ string_bytes text.old ++ led (codes " ") (map decimal (consoles set))) }
 {
     for console in 0..16u16 {
@@ -46,7 +47,7 @@ fn write_each_signer(text: &mut String, set: u16) -> fmt::Result
 }
 
 // Adds the consoles of a set, or `-` where it has none.
-fn write_signers(text: &mut String, set: u16) -> fmt::Result
+fn write_signers(text: &mut String, set: u16) -> Result<(), AllocError>
     ensures { OnOk result (string_bytes text.new ≡ string_bytes text.old ++ signers_told set) }
 {
     if set == 0 {
@@ -62,7 +63,7 @@ fn write_proposal(
     body: Part<'_>,
     certificate: Part<'_>,
     seal: Part<'_>,
-) -> fmt::Result
+) -> Result<(), AllocError>
     ensures { OnOk result (string_bytes text.new ≡ string_bytes text.old ++ proposal_told value.now (placed_told body.entry) (placed_told certificate.entry) (placed_told seal.entry)) }
 {
     let name = value.body.name();
@@ -86,7 +87,7 @@ fn write_proposal(
     write_orders(text, value.body.orders.as_slice())
 }
 
-fn write_vote(text: &mut String, value: &Vote, seal: Part<'_>) -> fmt::Result
+fn write_vote(text: &mut String, value: &Vote, seal: Part<'_>) -> Result<(), AllocError>
     ensures { OnOk result (string_bytes text.new ≡ string_bytes text.old ++ vote_told value.now (placed_told seal.entry)) }
 {
     write!(
@@ -100,7 +101,7 @@ fn write_vote(text: &mut String, value: &Vote, seal: Part<'_>) -> fmt::Result
 }
 
 // Adds a message and the places of its parts.
-fn write_message(text: &mut String, reading: Reading<'_>) -> fmt::Result
+fn write_message(text: &mut String, reading: Reading<'_>) -> Result<(), AllocError>
     ensures { OnOk result (string_bytes text.new ≡ string_bytes text.old ++ message_told reading.entry) }
 {
     match reading {
@@ -115,7 +116,7 @@ fn write_message(text: &mut String, reading: Reading<'_>) -> fmt::Result
 }
 
 // Adds what is said of a datagram in a pit of n consoles.
-pub fn write_reading(text: &mut String, n: u8, datagram: &[u8]) -> fmt::Result
+pub fn write_reading(text: &mut String, n: u8, datagram: &[u8]) -> Result<(), AllocError>
     ensures { OnOk result (string_bytes text.new ≡ string_bytes text.old ++ reading_told n datagram.now) }
 {
     match read(n, datagram) {

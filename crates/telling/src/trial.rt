@@ -5,19 +5,18 @@ ghost use Rattle.script.specs.declared.command.NewBoard.TheVariants as fresh;
 ghost use Rattle.telling.specs.Lists.{led};
 ghost use Rattle.telling.specs.Tries.{effect_told, effects, effects_told, taken_told, trial_told};
 
-use crate::boards::{write_assignment, write_tonnage};
+use crate::board_words::{write_assignment, write_tonnage};
 use boards::assignment::board::Assignment;
 use boards::assignment::line::Line;
 use boards::tonnage::Tonnage;
 use parts::board::Board;
 use script::command::NewBoard;
 use std::alloc::{AllocError, Global};
-use std::fmt;
 use wire::order::Order;
 use wire::orders::well_formed;
 
 // Adds the effect of an order, after a space.
-fn write_effect(text: &mut String, effect: bool) -> fmt::Result
+fn write_effect(text: &mut String, effect: bool) -> Result<(), AllocError>
     ensures { OnOk result (string_bytes text.new ≡ string_bytes text.old ++ (codes " " ++ effect_told effect)) }
 {
     if effect {
@@ -28,7 +27,7 @@ fn write_effect(text: &mut String, effect: bool) -> fmt::Result
 }
 
 // The board takes the orders; whether each had an effect is added to the text.
-fn take_each<B: Board>(text: &mut String, board: &mut B, orders: &[Order]) -> fmt::Result
+fn take_each<B: Board>(text: &mut String, board: &mut B, orders: &[Order]) -> Result<(), AllocError>
     ensures effects { OnOk result (string_bytes text.new ≡ string_bytes text.old ++ led (codes " ") (map effect_told (effects B.Board.rule B.Board.effect (B.Board.world board.old) orders.now))) }
     ensures board { OnOk result (B.Board.world board.new ≡ fed B.Board.rule (B.Board.world board.old) orders.now) }
 {
@@ -40,7 +39,11 @@ fn take_each<B: Board>(text: &mut String, board: &mut B, orders: &[Order]) -> fm
 }
 
 // The same, with `-` where there are no orders.
-fn write_effects<B: Board>(text: &mut String, board: &mut B, orders: &[Order]) -> fmt::Result
+fn write_effects<B: Board>(
+    text: &mut String,
+    board: &mut B,
+    orders: &[Order],
+) -> Result<(), AllocError>
     ensures effects { OnOk result (string_bytes text.new ≡ string_bytes text.old ++ effects_told B.Board.rule B.Board.effect (B.Board.world board.old) orders.now) }
     ensures board { OnOk result (B.Board.world board.new ≡ fed B.Board.rule (B.Board.world board.old) orders.now) }
 {
@@ -57,9 +60,7 @@ fn free_lines(heap: Global, lines: u16) -> Result<Vec<Option<Line>>, AllocError>
 {
     let mut table = Vec::new(heap);
     for _ in 0..lines {
-        if table.push(None).is_err() {
-            return Err(AllocError);
-        }
+        table.push(None)?;
     }
     Ok(table)
 }
@@ -70,19 +71,17 @@ fn try_assignment(
     lines: u16,
     limit: u16,
     orders: &[Order],
-) -> fmt::Result
+) -> Result<(), AllocError>
     ensures { OnOk result (string_bytes text.new ≡ string_bytes text.old ++ taken_told (fresh.Assignment lines limit) orders.now) }
 {
-    let Ok(mut table) = free_lines(heap, lines) else {
-        return Err(fmt::Error);
-    };
+    let mut table = free_lines(heap, lines)?;
     let mut board = Assignment::new(table.as_mut_slice(), limit);
     write_effects(text, &mut board, orders)?;
     write!(text, "; ")?;
     write_assignment(text, board.lines())
 }
 
-fn try_tonnage(text: &mut String, orders: &[Order]) -> fmt::Result
+fn try_tonnage(text: &mut String, orders: &[Order]) -> Result<(), AllocError>
     ensures { OnOk result (string_bytes text.new ≡ string_bytes text.old ++ taken_told fresh.Tonnage orders.now) }
 {
     let mut board = Tonnage::new();
@@ -97,7 +96,7 @@ pub fn write_trial(
     heap: Global,
     board: NewBoard,
     orders: &[Order],
-) -> fmt::Result
+) -> Result<(), AllocError>
     ensures { OnOk result (string_bytes text.new ≡ string_bytes text.old ++ trial_told board orders.now) }
 {
     if orders.len() > 8 || !well_formed(orders) {

@@ -10,9 +10,9 @@ use Rattle.telling.proofs.trial.try_assignment.Goals as goal
 pub returns : goal.returns
 returns c =
     let taken = c.in_ok-write_effects.ensures in
-    let many : length c.as_mut_slice.result.now ≡ c.args.lines = ap length (c.as_mut_slice.ensures.value ∙ c.in-Ok.ensures) ∙ length-replicate c.args.lines None in
-    let lines = c.new_board.ensures.lines ∙ ap (λ (n : ℕ). replicate n None) many in
-    let limit = c.new_board.ensures.limit in
+    let many : length c.as_mut_slice.result.now ≡ c.args.lines = ap length (c.as_mut_slice.ensures.value ∙ c.in_ok-table.ensures) ∙ length-replicate c.args.lines None in
+    let lines = c.new-board.ensures.lines ∙ ap (λ (n : ℕ). replicate n None) many in
+    let limit = c.new-board.ensures.limit in
     board_after c.write_assignment.result (λ w. effects_told assigned effective w c.args.orders.now) (λ w. fed assigned w c.args.orders.now) (λ w. assignment_told w.lines)
     (no_trucks c.args.lines c.args.limit) _ _ (string_bytes c.args.text.now) _ _ _
     (λ i. record { limit = limit i; lines = lines i }) taken.effects taken.board c.in_ok-write.ensures.bytes

@@ -11,4 +11,4 @@ pub returns : goal.returns
 returns c =
     let taken = c.in_ok-write_effects.ensures in
     board_after c.write_tonnage.result (λ w. effects_told tallied counts w c.args.orders.now) (λ w. fed tallied w c.args.orders.now) tonnage_told
-    (replicate 64 no_loads) _ _ (string_bytes c.args.text.now) _ _ _ c.new_board.ensures taken.effects taken.board c.in_ok-write.ensures.bytes c.write_tonnage.ensures
+    (replicate 64 no_loads) _ _ (string_bytes c.args.text.now) _ _ _ c.new-board.ensures taken.effects taken.board c.in_ok-write.ensures.bytes c.write_tonnage.ensures

@@ -8,7 +8,7 @@ returns-then-orders-gt8 c =
     elim c.then-orders-gt8.branch [
       | then-orders-gt8-via-then-orders-gt8 w ↦ rw (trial_of_many c.args.board c.args.orders.now w.if-orders-gt8.true) c.write.ensures.bytes
       | then-orders-gt8-via-else-orders-gt8+then-not-well_formed w ↦
-          rw (trial_of_ill c.args.board c.args.orders.now w.if-orders-gt8.false (sym w.well_formed-2.ensures ∙ w.if-not-well_formed.true)) c.write.ensures.bytes
+          rw (trial_of_ill c.args.board c.args.orders.now w.if-orders-gt8.false (sym w.well_formed-else-orders-gt8.ensures ∙ w.if-not-well_formed.true)) c.write.ensures.bytes
     ]
 
 pub returns-in-Assignment : goal.returns-in-Assignment

@@ -5,10 +5,10 @@ ghost use Rattle.telling.specs.Shown.{assignment_told, has_loads, line_told, loa
 
 use boards::assignment::line::Line;
 use boards::tonnage::Tonnage;
-use std::fmt;
+use std::alloc::AllocError;
 
 // Adds a line of the table, after a space.
-fn write_line(text: &mut String, line: &Option<Line>) -> fmt::Result
+fn write_line(text: &mut String, line: &Option<Line>) -> Result<(), AllocError>
     ensures { OnOk result (string_bytes text.new ≡ string_bytes text.old ++ (codes " " ++ line_told line.now)) }
 {
     match *line {
@@ -17,7 +17,7 @@ fn write_line(text: &mut String, line: &Option<Line>) -> fmt::Result
     }
 }
 
-fn write_lines(text: &mut String, lines: &[Option<Line>]) -> fmt::Result
+fn write_lines(text: &mut String, lines: &[Option<Line>]) -> Result<(), AllocError>
     ensures { OnOk result (string_bytes text.new ≡ string_bytes text.old ++ led (codes " ") (map line_told lines.now)) }
 {
     for line in lines {
@@ -27,7 +27,7 @@ fn write_lines(text: &mut String, lines: &[Option<Line>]) -> fmt::Result
 }
 
 // Adds an assignment board: the lines of its table in sequence.
-pub fn write_assignment(text: &mut String, lines: &[Option<Line>]) -> fmt::Result
+pub fn write_assignment(text: &mut String, lines: &[Option<Line>]) -> Result<(), AllocError>
     ensures { OnOk result (string_bytes text.new ≡ string_bytes text.old ++ assignment_told lines.now) }
 {
     write!(text, "assignment")?;
@@ -35,7 +35,7 @@ pub fn write_assignment(text: &mut String, lines: &[Option<Line>]) -> fmt::Resul
 }
 
 // Adds one of the 64 places after a space, or nothing if no load came to it.
-fn write_place(text: &mut String, board: &Tonnage, number: u16) -> fmt::Result
+fn write_place(text: &mut String, board: &Tonnage, number: u16) -> Result<(), AllocError>
     requires { (1 ≤ number) × (number ≤ 64) }
     ensures { OnOk result (string_bytes text.new ≡ string_bytes text.old ++ (if has_loads board.now.places number then codes " " ++ place_told board.now.places number else [])) }
 {
@@ -51,7 +51,7 @@ fn write_place(text: &mut String, board: &Tonnage, number: u16) -> fmt::Result
     write!(text, " {number}:{}/{}/{tonnes}", place.loads, place.tenths)
 }
 
-fn write_places(text: &mut String, board: &Tonnage) -> fmt::Result
+fn write_places(text: &mut String, board: &Tonnage) -> Result<(), AllocError>
     ensures { OnOk result (string_bytes text.new ≡ string_bytes text.old ++ loaded_told board.now.places) }
 {
     for i in 0..64u16 {
@@ -61,7 +61,7 @@ fn write_places(text: &mut String, board: &Tonnage) -> fmt::Result
 }
 
 // Adds a tonnage board: the places that have loads, by rising number.
-pub fn write_tonnage(text: &mut String, board: &Tonnage) -> fmt::Result
+pub fn write_tonnage(text: &mut String, board: &Tonnage) -> Result<(), AllocError>
     ensures { OnOk result (string_bytes text.new ≡ string_bytes text.old ++ tonnage_told board.now.places) }
 {
     write!(text, "tonnage")?;

@@ -1,7 +1,7 @@
 use Rattle.std.proofs.Common.{◌≡◌, ◌+◌, codes, arith}
 use Rattle.telling.specs.Shown.{has_loads, place_told}
 use Rattle.telling.proofs.Growing.{passed_none, passed_more}
-use Rattle.telling.proofs.boards.write_places.Goals as goal
+use Rattle.telling.proofs.board_words.write_places.Goals as goal
 
 pub loop-i-init : goal.loop-i-init
 loop-i-init c = passed_none (codes " ") (place_told c.args.board.now.places) (has_loads c.args.board.now.places) 1 _

@@ -1,7 +1,7 @@
 use Rattle.std.proofs.Common.{codes}
 use Rattle.telling.specs.Shown.{line_told}
 use Rattle.telling.proofs.Growing.{told_more, told-all}
-use Rattle.telling.proofs.boards.write_lines.Goals as goal
+use Rattle.telling.proofs.board_words.write_lines.Goals as goal
 
 pub loop-line-preserved : goal.loop-line-preserved
 loop-line-preserved c = told_more (codes " ") line_told _ _ _ _ _ _ c.loop-line-test.true c.loop-line.invariant c.in_ok-write_line.ensures
