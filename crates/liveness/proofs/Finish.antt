@@ -5,7 +5,7 @@ use Rattle.std.proofs.lemmas.List.{append_assoc}
 use Rattle.std.proofs.lemmas.Bool.{cases_lt, or_left}
 use Rattle.votes.specs.Quorum.{is_quorum}
 use Rattle.votes.specs.Votes.{Certified, Among, Lawful, Chain, Ancestor, History}
-use Rattle.votes.proofs.Agree.{one-per-view}
+use Rattle.votes.proofs.Agree.{one_per_view}
 use Rattle.wire.specs.Format.{body_key, origin}
 use Rattle.wire.specs.declared.body.Body.{Body}
 use Rattle.wire.specs.declared.key.Key.{Key}
@@ -157,7 +157,7 @@ module _ (c : Case) where
 
   -- a certified key of view v is the first block's
   only_first : (k : Key) → Sure k → k.view ≡ c.v → k ≡ key
-  only_first k s e = one-per-view blocks (consoles c.pit) H law k key s first_certified (e ∙ sym (body_view c first))
+  only_first k s e = one_per_view blocks (consoles c.pit) H law k key s first_certified (e ∙ sym (body_view c first))
 
   -- the second block is built on it
   built_on : c.timely.second.body.parent ≡ key

@@ -2,7 +2,7 @@
 use Rattle.std.proofs.Common.{◌≡◌, ℕ, zero, suc, ◌<◌, ◌≤◌, Bool, true, false, cond, ltb, ◌⊎◌, List, [], ◌∷◌, ◌++◌, Some, None, sym, refl, ap, ◌∙◌, subst, inl, inr, ⊎_elim, arith}
 use Rattle.std.proofs.lemmas.Bool.{cond-true, both_ways, or_cases, or_left, or_right, lt-ltb}
 use Rattle.votes.specs.Votes.{Blocks, Consoles, History, Among, Certified, Backed, Final, Lawful, Chain, Ancestor}
-use Rattle.votes.proofs.Agree.{chain-push, final-ancestor, common}
+use Rattle.votes.proofs.Agree.{chain_push, final_ancestor, common}
 use Rattle.votes.proofs.Grow.{chain_length}
 use Rattle.wire.specs.Format.{body_key, same_key}
 use Rattle.wire.specs.declared.body.Body.{Body}
@@ -46,12 +46,12 @@ module _ (B : Blocks) (h : History B) where
         let shown = law.known w.0 w.1 x.0 x.1 in
         let a = from_origin m (B.parent x.0) (law.backed w.0 w.1 x.0 x.1)
         (omega (arith, l, law.descend x.0 shown, ap B.view x.2)) in
-        (a.0 ++ (x.0 ∷ []), subst (λ y. Chain B h B.origin (a.0 ++ (x.0 ∷ [])) y) x.2 (chain-push B h a.0 B.origin x.0 shown a.1))
+        (a.0 ++ (x.0 ∷ []), subst (λ y. Chain B h B.origin (a.0 ++ (x.0 ∷ [])) y) x.2 (chain_push B h a.0 B.origin x.0 shown a.1))
 
     -- a head is an ancestor of every certified key that is no older
     pub head_ancestor : (j k : B.Key) → (j ≡ B.origin) ⊎ Final B c h j → Certified B c h k → B.view j ≤ B.view k → Ancestor B h j k
     head_ancestor j k (inl e) s l = subst (λ y. Ancestor B h y k) (sym e) (from_origin (suc (B.view k)) k (inr s) (omega arith))
-    head_ancestor j k (inr f) s l = final-ancestor B c h law j k f s l
+    head_ancestor j k (inr f) s l = final_ancestor B c h law j k f s l
 
 -- ---- lines on two shelves
 

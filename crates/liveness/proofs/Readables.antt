@@ -5,7 +5,7 @@ use Rattle.std.proofs.lemmas.List.{take_at}
 use Rattle.std.proofs.lemmas.Bool.{cases_Bool, cond_both, and_from, and_parts, or_left, or_right, ltb-true, lt-ltb, leb-true, le-leb, eqb-true}
 use Rattle.digest.proofs.Blocks.{length-digest}
 use Rattle.votes.specs.Votes.{Backed}
-use Rattle.votes.proofs.Agree.{certified-body}
+use Rattle.votes.proofs.Agree.{certified_body}
 use Rattle.wire.specs.Canon.{KeyFits, OrderFits, WellFormed}
 use Rattle.wire.specs.Format.{signed, origin, origin_certificate, same_key, body_key, body_name, body_bytes, vote_bytes, proposal_bytes, message_bytes, orders_of, pack, blank}
 use Rattle.wire.specs.Read.{read, all_well_formed, proposal_stands}
@@ -157,7 +157,7 @@ named_fits b = length-digest (body_bytes b)
 backed_name : (pit : Pit) (ls : Sheet) → SoundSheet pit ls → (k : Key) → Backed blocks (consoles pit) (history pit ls) k → length k.name ≡ 32
 backed_name pit ls good k (inl e) = ap (λ (x : Key). length x.name) e
 backed_name pit ls good k (inr s) =
-    let b = certified-body blocks (consoles pit) (history pit ls) (lawful pit ls good) k s in
+    let b = certified_body blocks (consoles pit) (history pit ls) (lawful pit ls good) k s in
     ap (λ (x : Key). length x.name) (sym b.2) ∙ named_fits b.0
 
 -- ---- votes

@@ -2,7 +2,7 @@
 use Rattle.std.proofs.Common.{◌≡◌, ℕ, ◌+◌, ◌-◌, ◌*◌, ◌<◌, ◌≤◌, false, List, [], ◌∷◌, ◌++◌, length, Some, Ok, sym, refl, ap, ◌∙◌, subst, inl, inr, ⊎_elim, arith, length-append}
 use Rattle.std.proofs.lemmas.List.{append_assoc}
 use Rattle.std.proofs.lemmas.Bool.{cases_Bool, cases_eq, cases_lt}
-use Rattle.votes.specs.Votes.{Grows as More-votes}
+use Rattle.votes.specs.Votes.{Grows as MoreVotes}
 use Rattle.wire.specs.Format.{proposal_bytes, vote_bytes}
 use Rattle.wire.specs.Read.{read}
 use Rattle.wire.specs.declared.body.Body.{Body}
@@ -139,7 +139,7 @@ module _ (c : Case) where
   ledger_sound i m s a =
       let r = ((sound_run c.pit m (good_at m a.now)).console i a.sound).open_state s a.is in
       ledger_grows c.pit (history c.pit m) (history c.pit c.st.run)
-      (subst (λ (x : Sheet). More-votes blocks (history c.pit m) (history c.pit x)) (sym a.now.here) (grows_lines c.pit a.now.later m))
+      (subst (λ (x : Sheet). MoreVotes blocks (history c.pit m) (history c.pit x)) (sym a.now.here) (grows_lines c.pit a.now.later m))
       (chain c.pit i m) s.ledger r.stands.ledger
 
   pub grown : (i : ℕ) (a b : Sheet) (s w : State) → At c i a s → At c i b w → length a ≤ length b → Grows s w

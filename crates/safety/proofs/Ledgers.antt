@@ -5,8 +5,8 @@ use Rattle.std.proofs.lemmas.List.{append-nil}
 use Rattle.std.proofs.lemmas.Bool.{cond_both, both_ways, and_parts, or_cases, eqb-true}
 use Rattle.votes.specs.Quorum.{Holds, is_quorum}
 use Rattle.votes.specs.Votes.{History, Among, Voted, Certified, Backed, Final, Chain, Settled, Grows}
-use Rattle.votes.proofs.Agree.{chain-push}
-use Rattle.votes.proofs.Grow.{backed-grows, settled_grows, settled-push, settled_none}
+use Rattle.votes.proofs.Agree.{chain_push}
+use Rattle.votes.proofs.Grow.{backed_grows, settled_grows, settled_push, settled_none}
 use Rattle.votes.proofs.Sets.{holds_entered, entered_below}
 use Rattle.wire.specs.Format.{body_key, body_name, signed}
 use Rattle.wire.specs.Format.{same_key}
@@ -61,7 +61,7 @@ module _ (pit : Pit) (g h : History blocks) (grows : Grows blocks g h) where
     named = s.named;
     shown = grows.shown b.body s.shown;
     above = s.above;
-    backed = backed-grows blocks (consoles pit) g h grows b.body.parent s.backed;
+    backed = backed_grows blocks (consoles pit) g h grows b.body.parent s.backed;
     within = s.within;
     voted = λ i sound holds. let v = s.voted i sound holds in (v.0, grows.votes i v.0 v.1, v.2);
   }
@@ -69,7 +69,7 @@ module _ (pit : Pit) (g h : History blocks) (grows : Grows blocks g h) where
   pub ledger_grows : (bodies : List Body) (l : Ledger) → SoundLedger pit g bodies l → SoundLedger pit h bodies l
   ledger_grows bodies l s = record {
     shelf = λ b on. block_grows b (s.shelf b on);
-    top = backed-grows blocks (consoles pit) g h grows l.top.block s.top;
+    top = backed_grows blocks (consoles pit) g h grows l.top.block s.top;
     settled = settled_grows blocks (consoles pit) g h grows l.head bodies s.settled;
     counted = s.counted;
   }
@@ -240,7 +240,7 @@ module _ (pit : Pit) (h : History blocks) (xs : List Slot) (sound : SoundShelf p
       → Chain blocks h head (bodies ++ (b.body ∷ [])) (block_key b)
   one_link b on bodies head c =
       let s = sound b on in
-      subst (Chain blocks h head (bodies ++ (b.body ∷ []))) (block_named pit h b s) (chain-push blocks h bodies head b.body s.shown c)
+      subst (Chain blocks h head (bodies ++ (b.body ∷ []))) (block_named pit h b s) (chain_push blocks h bodies head b.body s.shown c)
 
   -- the line of held parents that reaches the head is a chain
   line_chain : (steps : ℕ) (head : Key) (b : Block) → On b xs → reaches_within steps xs head b ≡ true
@@ -280,7 +280,7 @@ module _ (pit : Pit) (h : History blocks) where
         shelf = λ c k. s.shelf c (on_swept b.body.view g.shelf c k).0;
         top = s.top;
         settled =
-            settled-push blocks (consoles pit) h g.head (block_key b) bodies _ s.settled
+            settled_push blocks (consoles pit) h g.head (block_key b) bodies _ s.settled
             (line_chain pit h g.shelf s.shelf (suc b.body.view) g.head b on q.1)
             (confirmed_final pit h g.shelf s.shelf b on q.0);
         counted = length-append bodies _ ∙ ap (λ (m : ℕ). m + length (line g.shelf g.head b)) s.counted;

@@ -3,7 +3,7 @@ use Rattle.std.proofs.Common.{◌≡◌, ℕ, ◌^◌, ◌<◌, ◌≤◌, Bool,
 use Rattle.std.proofs.lemmas.Bool.{and_parts, or_cases, both_ways, ltb-true, leb-true}
 use Rattle.std.proofs.lemmas.Bool.Decides.{nat_tests}
 use Rattle.wire.specs.Format.{origin, orders_of, same_key}
-use Rattle.wire.specs.Read.{marked, certificate_stands, inner_marks, body_stands, proposal_stands, proposal_in, proposal_fits, vote_in, vote_fits, vote_stands, judged, read, read_proposal as proposal-read, read_vote as vote-read, all_well_formed}
+use Rattle.wire.specs.Read.{marked, certificate_stands, inner_marks, body_stands, proposal_stands, proposal_in, proposal_fits, vote_in, vote_fits, vote_stands, judged, read, read_proposal as proposal_read, read_vote as vote_read, all_well_formed}
 use Rattle.wire.specs.declared.certificate.Certificate.{Certificate}
 use Rattle.wire.specs.declared.message.Message.{Message}
 use Rattle.wire.specs.declared.message.Message.TheVariants as message
@@ -67,7 +67,7 @@ proposal_facts n p e =
 chosen : (n : ℕ) (bytes : List ℕ) (m : Message) → read n bytes ≡ Ok m
     → (((inner_marks (drop 2 bytes) && proposal_stands n (proposal_in (drop 2 bytes))) ≡ true) × (message.Proposal (proposal_in (drop 2 bytes)) ≡ m))
     ⊎ ((vote_stands n (vote_in (drop 2 bytes)) ≡ true) × (message.Vote (vote_in (drop 2 bytes)) ≡ m))
-unfolding read proposal-read vote-read
+unfolding read proposal_read vote_read
 chosen n bytes m e =
     one_kind (marked (codes "PR") bytes) (marked (codes "VT") bytes) (proposal_fits (drop 2 bytes))
     (inner_marks (drop 2 bytes) && proposal_stands n (proposal_in (drop 2 bytes)))

@@ -4,7 +4,7 @@ use mathlib.Core.List.{Memᴰ}
 use Rattle.std.proofs.lemmas.Bool.{cases_Bool, cases_eq, both_ways}
 use Rattle.parts.specs.declared.store.Marks.{Marks}
 use Rattle.votes.specs.Votes.{History, Among, Voted, Backed, Rising, ViewsDescend, Grows, last_view, last_lock}
-use Rattle.votes.proofs.Grow.{backed-grows, rising-push}
+use Rattle.votes.proofs.Grow.{backed_grows, rising_push}
 use Rattle.wire.specs.Format.{body_key}
 use Rattle.wire.specs.declared.body.Body.{Body}
 use Rattle.wire.specs.declared.key.Key.{Key}
@@ -78,7 +78,7 @@ other_console pit l ls i apart c = record {
   rise = subst (Rising blocks) (sym same) c.rise;
   known = λ b m. grows.shown b (c.known b (subst (λ (vs : List Body). Among b vs) same m));
   backed = λ b m.
-      backed-grows blocks (consoles pit) (history pit ls) (history pit (l ∷ ls)) grows b.parent
+      backed_grows blocks (consoles pit) (history pit ls) (history pit (l ∷ ls)) grows b.parent
       (c.backed b (subst (λ (vs : List Body). Among b vs) same m));
   sealed = λ k e.
       ⊎_elim
@@ -110,7 +110,7 @@ pub record GoodLine (pit : Pit) (l : Line) (ls : Sheet) : Type 0 where
 rising_some : (o : Option Body) (vs : List Body) → Rising blocks vs
     → ((b : Body) → o ≡ Some b → (last_view blocks vs < b.view) × (last_lock blocks vs ≤ b.parent.view)) → Rising blocks (with_some o vs)
 rising_some None vs r f = r
-rising_some (Some b) vs r f = let p = f b refl in rising-push blocks vs b r p.0 p.1
+rising_some (Some b) vs r f = let p = f b refl in rising_push blocks vs b r p.0 p.1
 
 own_console : (pit : Pit) (l : Line) (ls : Sheet) → GoodLine pit l ls → SoundConsole pit ls l.console
     → SoundConsole pit (l ∷ ls) l.console
@@ -122,7 +122,7 @@ own_console pit l ls good c = record {
   backed = λ b m.
       ⊎_elim
       (λ e. (good.ballot b e).1)
-      (λ k. backed-grows blocks (consoles pit) (history pit ls) (history pit (l ∷ ls)) grows b.parent (c.backed b k))
+      (λ k. backed_grows blocks (consoles pit) (history pit ls) (history pit (l ∷ ls)) grows b.parent (c.backed b k))
       (either b m);
   sealed = λ k e.
       ⊎_elim

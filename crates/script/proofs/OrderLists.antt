@@ -94,33 +94,33 @@ module _ (empty : Bool) (fields : List (List ℕ)) (vs : List Order) (more : Boo
       subst (λ (l : List Order). Taken (not empty) fields l m after) (sym pushed)
       (taken_more (not empty) fields vs rest o m after (subst (λ (b : Bool). Taken (not empty) fields vs b rest) due so) took)
 
-  pub orders-all : empty ≡ none_left fields → more ≡ false → rest ≡ [] → HasOrders fields vs
-  orders-all e done end =
+  pub orders_all : empty ≡ none_left fields → more ≡ false → rest ≡ [] → HasOrders fields vs
+  orders_all e done end =
       subst (λ (b : Bool). OrdersDue (not b) fields vs) e
       (subst (λ (l : List Order). OrdersDue (not empty) fields l) (append-nil vs) ((subst (λ (b : Bool). Taken (not empty) fields vs b rest) done so).on [] end))
 
   back_to : empty ≡ none_left fields → (os : List Order) → HasOrders fields os → (ws : List Order) × OrdersDue more rest ws
   back_to e os said = so.back os (subst (λ (b : Bool). OrdersDue (not b) fields os) (sym e) said)
 
-  none-due : (ws : List Order) → (Possible HasOrder rest → ⊥) → OrdersDue true rest ws → ⊥
-  none-due [] none said = said
-  none-due (w ∷ ws) none said = none ((w, said.0), said.1, said.2)
+  none_due : (ws : List Order) → (Possible HasOrder rest → ⊥) → OrdersDue true rest ws → ⊥
+  none_due [] none said = said
+  none_due (w ∷ ws) none said = none ((w, said.0), said.1, said.2)
 
   -- where an order is due and none is there, the fields are no orders
-  pub orders-fault : empty ≡ none_left fields → more ≡ true → (Possible HasOrder rest → ⊥) → (os : List Order) → HasOrders fields os → ⊥
-  orders-fault e due none os said =
+  pub orders_fault : empty ≡ none_left fields → more ≡ true → (Possible HasOrder rest → ⊥) → (os : List Order) → HasOrders fields os → ⊥
+  orders_fault e due none os said =
       let was = back_to e os said in
-      none-due was.0 none (subst (λ (b : Bool). OrdersDue b rest was.0) due was.1)
+      none_due was.0 none (subst (λ (b : Bool). OrdersDue b rest was.0) due was.1)
 
-  end-due : (ws : List Order) → OrdersDue false rest ws → rest ≡ []
-  end-due [] said = said
-  end-due (w ∷ ws) said = absurd said
+  end_due : (ws : List Order) → OrdersDue false rest ws → rest ≡ []
+  end_due [] said = said
+  end_due (w ∷ ws) said = absurd said
 
   -- nor where none is due and fields are left
-  pub orders-left : (f : FieldError) → empty ≡ none_left fields → more ≡ false → Leaves rest f → (os : List Order) → HasOrders fields os → ⊥
-  orders-left f e done left os said =
+  pub orders_left : (f : FieldError) → empty ≡ none_left fields → more ≡ false → Leaves rest f → (os : List Order) → HasOrders fields os → ⊥
+  orders_left f e done left os said =
       let was = back_to e os said in
-      not_ended f left (end-due was.0 (subst (λ (b : Bool). OrdersDue b rest was.0) done was.1))
+      not_ended f left (end_due was.0 (subst (λ (b : Bool). OrdersDue b rest was.0) done was.1))
 
 -- a board that is an assignment board by its word
 pub board_by : (r : Result NewBoard Fault) (word : List ℕ) (fields before after : List (List ℕ)) → before ≡ word ∷ fields → bytes_eq word (codes "assignment") ≡ true → MatchResult r (λ b. HasAssignment fields b after) (λ e. Refutes e (Possible HasAssignment fields)) → MatchResult r (λ b. HasBoard before b after) (λ e. Refutes e (Possible HasBoard before))

@@ -40,8 +40,8 @@ module _ {A : Type 0} {Has : List (List ℕ) → A → List (List ℕ) → Type 
   not_first never said = never (said.value, said.after, said.taken)
 
   -- where what follows it cannot be said
-  pub not-later : Single Has → (a : A) (after : List (List ℕ)) → Has before a after → ((b : A) → On b after → ⊥) → Then Has On before → ⊥
-  not-later single a after here never said =
+  pub not_later : Single Has → (a : A) (after : List (List ℕ)) → Has before a after → ((b : A) → On b after → ⊥) → Then Has On before → ⊥
+  not_later single a after here never said =
       never said.value (subst (λ (l : List (List ℕ)). On said.value l) (single.same before a said.value after said.after here said.taken) said.on)
 
 no_field : {f : List ℕ} {rest : List (List ℕ)} → [] ≡ f ∷ rest → ⊥

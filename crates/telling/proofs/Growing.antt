@@ -37,14 +37,14 @@ module _ (by : List ℕ) (f : ℕ → List ℕ) (test : ℕ → Bool) (a : ℕ) 
   pub passed_none : (start : List ℕ) → start ≡ start ++ led by (map f (passing test a 0))
   passed_none start = rw (passing_none, append-nil)
 
-  passed-by : (start was now ps : List ℕ) (j : ℕ) (b : Bool) → was ≡ start ++ led by (map f ps) → now ≡ was ++ cond b (by ++ f j) [] → now ≡ start ++ led by (map f (ps ++ cond b (j ∷ []) []))
-  passed-by start was now ps j true before added = rw (map_push f ps j) (led_more by start was now (map f ps) (f j) before added)
-  passed-by start was now ps j false before added = rw (append-nil, added, append-nil) before
+  passed_by : (start was now ps : List ℕ) (j : ℕ) (b : Bool) → was ≡ start ++ led by (map f ps) → now ≡ was ++ cond b (by ++ f j) [] → now ≡ start ++ led by (map f (ps ++ cond b (j ∷ []) []))
+  passed_by start was now ps j true before added = rw (map_push f ps j) (led_more by start was now (map f ps) (f j) before added)
+  passed_by start was now ps j false before added = rw (append-nil, added, append-nil) before
 
   -- a number that passes adds itself, another one nothing
   pub passed_more : (start was now : List ℕ) (n j : ℕ) → a + n ≡ j → was ≡ start ++ led by (map f (passing test a n)) → now ≡ was ++ cond (test j) (by ++ f j) [] → now ≡ start ++ led by (map f (passing test a (n + 1)))
   passed_more start was now n j e before added =
-      rw (passing_more test a n j e) (passed-by start was now (passing test a n) j (test j) before added)
+      rw (passing_more test a n j e) (passed_by start was now (passing test a n) j (test j) before added)
 
 parts_none : {X : Type 0} (xs ys : List X) → xs ++ ys ≡ [] → (xs ≡ []) × (ys ≡ [])
 parts_none [] ys e = (refl, e)

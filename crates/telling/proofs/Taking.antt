@@ -15,38 +15,38 @@ module _ {W : Type 0} (rule : W → Order → W) (effect : W → Order → Bool)
   abbrev pub each : W → List Order → List ℕ
   each w os = led (codes " ") (map effect_told (effects rule effect w os))
 
-  each-one : (w : W) (o : Order) (os : List Order) → each w (o ∷ os) ≡ (codes " " ++ effect_told (effect w o)) ++ each (rule w o) os
+  each_one : (w : W) (o : Order) (os : List Order) → each w (o ∷ os) ≡ (codes " " ++ effect_told (effect w o)) ++ each (rule w o) os
   unfolding effects
-  each-one w o os = refl
+  each_one w o os = refl
 
   each_none : (w : W) → each w [] ≡ []
   unfolding effects
   each_none w = refl
 
   -- the rest of the orders, one fewer
-  pub effect-more : (w v : W) (was now all : List ℕ) (os : List Order) (i : ℕ) (o : Order) (e : Bool) → i < length os → e ≡ effect w (get_or os i o) → v ≡ rule w (get_or os i o) → now ≡ was ++ (codes " " ++ effect_told e) → was ++ each w (drop i os) ≡ all → now ++ each v (drop (i + 1) os) ≡ all
-  effect-more w v was now all os i o e below told moved added before =
+  pub effect_more : (w v : W) (was now all : List ℕ) (os : List Order) (i : ℕ) (o : Order) (e : Bool) → i < length os → e ≡ effect w (get_or os i o) → v ≡ rule w (get_or os i o) → now ≡ was ++ (codes " " ++ effect_told e) → was ++ each w (drop i os) ≡ all → now ++ each v (drop (i + 1) os) ≡ all
+  effect_more w v was now all os i o e below told moved added before =
       let d = at_drop_more (each w) os i o below in
-      let one = each-one w (get_or os i o) (drop (i + 1) os) in
+      let one = each_one w (get_or os i o) (drop (i + 1) os) in
       let said = subst (λ (b : Bool). now ≡ was ++ (codes " " ++ effect_told b)) told added in
       let a = append_assoc was (codes " " ++ effect_told (effect w (get_or os i o))) (each (rule w (get_or os i o)) (drop (i + 1) os)) in
       rw (said, moved) (a ∙ sym (ap (λ (l : List ℕ). was ++ l) (d ∙ one)) ∙ before)
 
-  pub effects-all : (w : W) (now all : List ℕ) (os : List Order) (i : ℕ) → length os ≤ i → now ++ each w (drop i os) ≡ all → now ≡ all
-  effects-all w now all os i past before =
+  pub effects_all : (w : W) (now all : List ℕ) (os : List Order) (i : ℕ) → length os ≤ i → now ++ each w (drop i os) ≡ all → now ≡ all
+  effects_all w now all os i past before =
       let d = at_drop_all (each w) os i past in
       let e = each_none w in
       let a = append-nil now in
       cc
 
-  pub effects-none : (w : W) → effects_told rule effect w [] ≡ codes " -"
+  pub effects_none : (w : W) → effects_told rule effect w [] ≡ codes " -"
   unfolding effects
-  effects-none w = refl
+  effects_none w = refl
 
-  pub effects-some : (w : W) (os : List Order) → (length os ≡ 0 → ⊥) → effects_told rule effect w os ≡ each w os
+  pub effects_some : (w : W) (os : List Order) → (length os ≡ 0 → ⊥) → effects_told rule effect w os ≡ each w os
   unfolding effects
-  effects-some w [] some = absurd (some refl)
-  effects-some w (o ∷ os) some = refl
+  effects_some w [] some = absurd (some refl)
+  effects_some w (o ∷ os) some = refl
 
 -- the effects from a new board on, and then the board after the orders
 pub board_after : {V E W : Type 0} (r : Result V E) (told : W → List ℕ) (after : W → W) (shown : W → List ℕ) (fresh w v : W) (start effects mark now : List ℕ) → w ≡ fresh → effects ≡ start ++ told w → v ≡ after w → mark ≡ effects ++ codes "; " → IfOk r (λ _. now ≡ mark ++ shown v) → IfOk r (λ _. now ≡ start ++ (told fresh ++ (codes "; " ++ shown (after fresh))))

@@ -52,8 +52,8 @@ none_pair high low rest none (b ∷ bs) p e = none b p.0 (cc) (cc)
 
 -- The reader's loop: vs are read from the digits before place 2 i.
 module _ (vs digits : List ℕ) (i : ℕ) (below : i < length digits / 2) (read : hex_pairs vs ++ drop (2 * i) digits ≡ digits) where
-  next-two : drop (2 * i) digits ≡ get_or digits (2 * i) 0 ∷ get_or digits (2 * i + 1) 0 ∷ drop (2 * (i + 1)) digits
-  next-two =
+  next_two : drop (2 * i) digits ≡ get_or digits (2 * i) 0 ∷ get_or digits (2 * i + 1) 0 ∷ drop (2 * (i + 1)) digits
+  next_two =
       let first = drop_more digits (2 * i) 0 (omega arith) in
       let second = drop_more digits (2 * i + 1) 0 (omega arith) in
       let place : 2 * (i + 1) ≡ 2 * i + 1 + 1 = omega arith in
@@ -62,15 +62,15 @@ module _ (vs digits : List ℕ) (i : ℕ) (below : i < length digits / 2) (read 
   -- the byte of the next pair
   pub pairs_next : (b : ℕ) → hex_digit (b / 16) ≡ get_or digits (2 * i) 0 → hex_digit (b % 16) ≡ get_or digits (2 * i + 1) 0 → hex_pairs (vs ++ b ∷ []) ++ drop (2 * (i + 1)) digits ≡ digits
   pairs_next b high low =
-      let two = next-two in
+      let two = next_two in
       let push = pairs_push vs b (drop (2 * (i + 1)) digits) in
       cc
 
   -- a pair that no byte has
-  pub none-next : ((b : ℕ) → b < 256 → hex_digit (b / 16) ≡ get_or digits (2 * i) 0 → hex_digit (b % 16) ≡ get_or digits (2 * i + 1) 0 → ⊥) → NoPairs digits
-  none-next none =
+  pub none_next : ((b : ℕ) → b < 256 → hex_digit (b / 16) ≡ get_or digits (2 * i) 0 → hex_digit (b % 16) ≡ get_or digits (2 * i + 1) 0 → ⊥) → NoPairs digits
+  none_next none =
       let P : List ℕ → Type 0 = NoPairs in
-      subst P read (none_after vs (drop (2 * i) digits) (subst P (sym next-two) (none_pair _ _ _ none)))
+      subst P read (none_after vs (drop (2 * i) digits) (subst P (sym next_two) (none_pair _ _ _ none)))
 
 pub dash : (field : List ℕ) → length field ≡ 1 → get_or field 0 0 ≡ 45 → hex_written [] ≡ field
 dash [] one here = absurd (omega arith)

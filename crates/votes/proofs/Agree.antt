@@ -55,14 +55,14 @@ module _ (B : Blocks) where
 -- ---- chains
 
 module _ (B : Blocks) (h : History B) where
-  pub chain-join : (xs ys : List B.Body) (i j k : B.Key) → Chain B h i xs j → Chain B h j ys k → Chain B h i (xs ++ ys) k
-  chain-join [] ys i j k c d = subst (λ x. Chain B h x ys k) (sym c) d
-  chain-join (x ∷ xs) ys i j k c d = (c.0, c.1, chain-join xs ys (B.key x) j k c.2 d)
+  pub chain_join : (xs ys : List B.Body) (i j k : B.Key) → Chain B h i xs j → Chain B h j ys k → Chain B h i (xs ++ ys) k
+  chain_join [] ys i j k c d = subst (λ x. Chain B h x ys k) (sym c) d
+  chain_join (x ∷ xs) ys i j k c d = (c.0, c.1, chain_join xs ys (B.key x) j k c.2 d)
 
   -- one more body at a chain's end
-  pub chain-push : (xs : List B.Body) (j : B.Key) (b : B.Body) → Among b h.shown → Chain B h j xs (B.parent b)
+  pub chain_push : (xs : List B.Body) (j : B.Key) (b : B.Body) → Among b h.shown → Chain B h j xs (B.parent b)
       → Chain B h j (xs ++ b ∷ []) (B.key b)
-  chain-push xs j b m c = chain-join xs (b ∷ []) j (B.parent b) (B.key b) c (refl, m, refl)
+  chain_push xs j b m c = chain_join xs (b ∷ []) j (B.parent b) (B.key b) c (refl, m, refl)
 
   -- the same line, newest first, from the key k down to the key j
   abbrev Line : B.Key → List B.Body → B.Key → Type 0
@@ -83,20 +83,20 @@ module _ (B : Blocks) (c : Consoles) (h : History B) (law : Lawful B c h) where
       (m.0, (m.1, m.2), s.voted m.0 (m.1, m.2) m.3, t.voted m.0 (m.1, m.2) m.4)
 
   -- a certified key has a body
-  pub certified-body : (k : B.Key) → Certified B c h k → (b : B.Body) × Among b h.shown × (B.key b ≡ k)
-  certified-body k s =
+  pub certified_body : (k : B.Key) → Certified B c h k → (b : B.Body) × Among b h.shown × (B.key b ≡ k)
+  certified_body k s =
       let m = common k k s s in
       (m.2.0, law.known m.0 m.1 m.2.0 m.2.1, m.2.2)
 
   -- a certified key's view is above the origin's
-  pub certified-above : (k : B.Key) → Certified B c h k → 1 ≤ B.view k
-  certified-above k s =
-      let b = certified-body k s in
+  pub certified_above : (k : B.Key) → Certified B c h k → 1 ≤ B.view k
+  certified_above k s =
+      let b = certified_body k s in
       omega (arith, law.descend b.0 b.1, ap B.view b.2)
 
   -- two certified keys of one view are one key
-  pub one-per-view : (j k : B.Key) → Certified B c h j → Certified B c h k → B.view j ≡ B.view k → j ≡ k
-  one-per-view j k s t e =
+  pub one_per_view : (j k : B.Key) → Certified B c h j → Certified B c h k → B.view j ≡ B.view k → j ≡ k
+  one_per_view j k s t e =
       let m = common j k s t in
       let a = m.2 in
       let b = m.3 in
@@ -117,35 +117,35 @@ module _ (B : Blocks) (c : Consoles) (h : History B) (law : Lawful B c h) where
       (omega (arith, l, ap B.view a.2, ap B.view b.2)) in
       let up : B.view j ≤ parent_view B b.0 = omega (arith, lock, ap (parent_view B) child, ap B.view f.upon) in
       let back : Certified B c h (B.parent b.0) = ⊎_elim
-      (λ e. absurd (omega (arith, up, certified-above j f.certified, law.start, ap B.view e)))
+      (λ e. absurd (omega (arith, up, certified_above j f.certified, law.start, ap B.view e)))
       (λ s. s)
       (law.backed m.0 m.1 b.0 b.1) in
       (b.0, vb, b.2, up, back)
 
   -- the step of the induction: `older` is the hypothesis, for certified keys of views below k's
-  ancestor-step : (j k : B.Key) → Final B c h j → Certified B c h k → B.view j ≤ B.view k
+  ancestor_step : (j k : B.Key) → Final B c h j → Certified B c h k → B.view j ≤ B.view k
       → ((i : B.Key) → Certified B c h i → B.view j ≤ B.view i → B.view i < B.view k → Ancestor B h j i) → Ancestor B h j k
-  ancestor-step j k f t l older = same (eq-or-lt_of_le l)
+  ancestor_step j k f t l older = same (eq-or-lt_of_le l)
     where
       later : (own_view B f.child ≡ B.view k) ⊎ (own_view B f.child < B.view k) → Ancestor B h j k
-      later (inl e) = (f.child ∷ [], (f.upon, f.shown, one-per-view (B.key f.child) k f.follows t e))
+      later (inl e) = (f.child ∷ [], (f.upon, f.shown, one_per_view (B.key f.child) k f.follows t e))
       later (inr g) =
           let d = step_down j k f t g in
           let a = older (B.parent d.0) d.4 d.3 (omega (arith, law.descend d.0 d.1, ap B.view d.2)) in
-          (a.0 ++ d.0 ∷ [], subst (λ x. Chain B h j (a.0 ++ d.0 ∷ []) x) d.2 (chain-push B h a.0 j d.0 d.1 a.1))
+          (a.0 ++ d.0 ∷ [], subst (λ x. Chain B h j (a.0 ++ d.0 ∷ []) x) d.2 (chain_push B h a.0 j d.0 d.1 a.1))
 
       same : (B.view j ≡ B.view k) ⊎ (B.view j < B.view k) → Ancestor B h j k
-      same (inl e) = ([], one-per-view j k f.certified t e)
+      same (inl e) = ([], one_per_view j k f.certified t e)
       same (inr g) = later (eq-or-lt_of_le (omega (arith, f.next, g)))
 
-  ancestor-in : (m : ℕ) (j k : B.Key) → Final B c h j → Certified B c h k → B.view j ≤ B.view k → B.view k < m → Ancestor B h j k
-  ancestor-in zero j k f t l lm = absurd (omega (arith, lm))
-  ancestor-in (suc m) j k f t l lm =
-      ancestor-step j k f t l (λ i s below less. ancestor-in m j i f s below (omega (arith, less, lm)))
+  ancestor_in : (m : ℕ) (j k : B.Key) → Final B c h j → Certified B c h k → B.view j ≤ B.view k → B.view k < m → Ancestor B h j k
+  ancestor_in zero j k f t l lm = absurd (omega (arith, lm))
+  ancestor_in (suc m) j k f t l lm =
+      ancestor_step j k f t l (λ i s below less. ancestor_in m j i f s below (omega (arith, less, lm)))
 
   -- a final key is on the line of ancestors of every certified key that is no older
-  pub final-ancestor : (j k : B.Key) → Final B c h j → Certified B c h k → B.view j ≤ B.view k → Ancestor B h j k
-  final-ancestor j k f t l = ancestor-in (suc (B.view k)) j k f t l (omega arith)
+  pub final_ancestor : (j k : B.Key) → Final B c h j → Certified B c h k → B.view j ≤ B.view k → Ancestor B h j k
+  final_ancestor j k f t l = ancestor_in (suc (B.view k)) j k f t l (omega arith)
 
   -- ---- a line down to the origin is determined by its key
 
@@ -160,31 +160,31 @@ module _ (B : Blocks) (c : Consoles) (h : History B) (law : Lawful B c h) where
       ap₂ (λ a as'. a ∷ as') e (one_line xs ys (B.parent x) l.2 (subst (λ a. Line B h (B.parent a) ys B.origin) (sym e) m.2))
 
   -- one head, one chain
-  pub one-chain : (xs ys : List B.Body) (k : B.Key) → Chain B h B.origin xs k → Chain B h B.origin ys k → xs ≡ ys
-  one-chain xs ys k a b =
+  pub one_chain : (xs ys : List B.Body) (k : B.Key) → Chain B h B.origin xs k → Chain B h B.origin ys k → xs ≡ ys
+  one_chain xs ys k a b =
       let o = B.origin in
       let e = one_line (reverse xs) (reverse ys) k (turned B h xs [] o o k a refl) (turned B h ys [] o o k b refl) in
       sym (reverse-reverse xs) ∙ ap reverse e ∙ reverse-reverse ys
 
   -- a chain that ends at an ancestor of another's end is a prefix of it
-  pub ancestor-prefix : (xs ys : List B.Body) (j k : B.Key) → Chain B h B.origin xs j → Chain B h B.origin ys k
+  pub ancestor_prefix : (xs ys : List B.Body) (j k : B.Key) → Chain B h B.origin xs j → Chain B h B.origin ys k
       → Ancestor B h j k → Prefix xs ys
-  ancestor-prefix xs ys j k a b n = (n.0, one-chain ys (xs ++ n.0) k b (chain-join B h xs n.0 B.origin j k a n.1))
+  ancestor_prefix xs ys j k a b n = (n.0, one_chain ys (xs ++ n.0) k b (chain_join B h xs n.0 B.origin j k a n.1))
 
   -- a chain to the origin is empty
-  pub empty-chain : (xs : List B.Body) → Chain B h B.origin xs B.origin → xs ≡ []
-  empty-chain xs a = one-chain xs [] B.origin a refl
+  pub empty_chain : (xs : List B.Body) → Chain B h B.origin xs B.origin → xs ≡ []
+  empty_chain xs a = one_chain xs [] B.origin a refl
 
-  pub never-part : (j k : B.Key) (xs ys : List B.Body) → Settled B c h j xs → Settled B c h k ys → Prefix xs ys ⊎ Prefix ys xs
-  never-part j k xs ys s t = ends s.final t.final
+  pub never_part : (j k : B.Key) (xs ys : List B.Body) → Settled B c h j xs → Settled B c h k ys → Prefix xs ys ⊎ Prefix ys xs
+  never_part j k xs ys s t = ends s.final t.final
     where
       nothing : (us vs : List B.Body) (i : B.Key) → Chain B h B.origin us i → i ≡ B.origin → Prefix us vs
       nothing us vs i a e =
-          (vs, ap (λ ws. ws ++ vs) (sym (empty-chain us (subst (λ x. Chain B h B.origin us x) e a))))
+          (vs, ap (λ ws. ws ++ vs) (sym (empty_chain us (subst (λ x. Chain B h B.origin us x) e a))))
 
       higher : Final B c h j → Final B c h k → (B.view j < B.view k) ⊎ (B.view k ≤ B.view j) → Prefix xs ys ⊎ Prefix ys xs
-      higher f g (inl l) = inl (ancestor-prefix xs ys j k s.line t.line (final-ancestor j k f g.certified (omega (arith, l))))
-      higher f g (inr l) = inr (ancestor-prefix ys xs k j t.line s.line (final-ancestor k j g f.certified l))
+      higher f g (inl l) = inl (ancestor_prefix xs ys j k s.line t.line (final_ancestor j k f g.certified (omega (arith, l))))
+      higher f g (inr l) = inr (ancestor_prefix ys xs k j t.line s.line (final_ancestor k j g f.certified l))
 
       ends : (j ≡ B.origin) ⊎ Final B c h j → (k ≡ B.origin) ⊎ Final B c h k → Prefix xs ys ⊎ Prefix ys xs
       ends (inl e) b = inl (nothing xs ys j s.line e)
@@ -192,7 +192,7 @@ module _ (B : Blocks) (c : Consoles) (h : History B) (law : Lawful B c h) where
       ends (inr f) (inr g) = higher f g (cases_lt (B.view j) (B.view k))
 
 pub agreement : (B : Blocks) → Agreement B
-agreement B = never-part B
+agreement B = never_part B
 
 pub ancestry : (B : Blocks) → Ancestry B
-ancestry B = record { ancestor = final-ancestor B; single = one-per-view B }
+ancestry B = record { ancestor = final_ancestor B; single = one_per_view B }

@@ -11,5 +11,5 @@ module _ {X : Type 0} (front : List X) (spare : X) (n i : ℕ) (h : length front
   fill_more x = rw rest_more (set_at front spare (replicate (n - (i + 1)) spare) x i h ∙ sym (append_assoc front (x ∷ []) _))
 
   -- the next place is left
-  pub leave-more : front ++ replicate (n - i) spare ≡ (front ++ spare ∷ []) ++ replicate (n - (i + 1)) spare
-  leave-more = rw rest_more (sym (append_assoc front (spare ∷ []) _))
+  pub leave_more : front ++ replicate (n - i) spare ≡ (front ++ spare ∷ []) ++ replicate (n - (i + 1)) spare
+  leave_more = rw rest_more (sym (append_assoc front (spare ∷ []) _))

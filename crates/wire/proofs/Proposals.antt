@@ -35,8 +35,8 @@ module _ (bs : List ℕ) (k : ℕ) (is : k ≡ number 42 1 bs) (few : k ≤ 8) (
   pub past_is : take (length bs - (43 + 8 * k)) (drop (43 + 8 * k) bs) ≡ past_body bs
   past_is = take_rest bs (43 + 8 * k) ∙ ap (λ (j : ℕ). drop (43 + 8 * j) bs) is
 
-  past-length : length (past_body bs) ≡ length bs - (43 + 8 * k)
-  past-length = let d = length-drop (body_length bs) bs in omega arith
+  past_length : length (past_body bs) ≡ length bs - (43 + 8 * k)
+  past_length = let d = length-drop (body_length bs) bs in omega arith
 
   module _ (set s : ℕ) (q : set ≡ number 38 2 (take (length bs - (43 + 8 * k)) (drop (43 + 8 * k) bs))) (r : s ≡ ones set) (most : s ≤ 16) where
     certificate-is : 40 + 16 * s ≡ certificate_length (past_body bs)
@@ -46,7 +46,7 @@ module _ (bs : List ℕ) (k : ℕ) (is : k ≡ number 42 1 bs) (few : k ≤ 8) (
     unfolding proposal_fits
     unfit n =
         let p = ap length past_is in
-        let l = past-length in
+        let l = past_length in
         let c = certificate-is in
         let n' : length (past_body bs) ≡ certificate_length (past_body bs) + 16 → ⊥ = λ e. n (p ∙ (e ∙ ap (λ (m : ℕ). m + 16) (sym c))) in
         grind (arith, nat_tests)
@@ -55,7 +55,7 @@ module _ (bs : List ℕ) (k : ℕ) (is : k ≡ number 42 1 bs) (few : k ≤ 8) (
     unfolding proposal_fits
     fit e =
         let p = ap length past_is in
-        let l = past-length in
+        let l = past_length in
         let c = certificate-is in
         (grind (arith, nat_tests), omega arith, c, omega arith, omega arith, omega arith, omega arith)
 
@@ -64,38 +64,38 @@ module _ (bs : List ℕ) (b c : ℕ) (l : Lengths bs (Some (b, c))) (x y z : Lis
   pub body_is : x ≡ body_part bs
   body_is = e ∙ ap (λ (n : ℕ). take n bs) l.1
 
-  pub certificate-part-is : y ≡ certificate_part bs
-  certificate-part-is = f ∙ (ap (λ (n : ℕ). take c (drop n bs)) l.1 ∙ ap (λ (n : ℕ). take n (past_body bs)) l.2)
+  pub certificate_part_is : y ≡ certificate_part bs
+  certificate_part_is = f ∙ (ap (λ (n : ℕ). take c (drop n bs)) l.1 ∙ ap (λ (n : ℕ). take n (past_body bs)) l.2)
 
-  pub seal-is : z ≡ seal_part bs
-  seal-is = g ∙ (ap (λ (n : ℕ). drop c (drop n bs)) l.1 ∙ ap (λ (n : ℕ). drop n (past_body bs)) l.2)
+  pub seal_is : z ≡ seal_part bs
+  seal_is = g ∙ (ap (λ (n : ℕ). drop c (drop n bs)) l.1 ∙ ap (λ (n : ℕ). drop n (past_body bs)) l.2)
 
-  count-is : number 42 1 x ≡ number 42 1 bs
-  count-is = ap (number 42 1) body_is ∙ ap num (field-take 42 1 (body_length bs) bs (omega arith))
+  count_is : number 42 1 x ≡ number 42 1 bs
+  count_is = ap (number 42 1) body_is ∙ ap num (field-take 42 1 (body_length bs) bs (omega arith))
 
   set_is : number 38 2 y ≡ number 38 2 (past_body bs)
-  set_is = ap (number 38 2) certificate-part-is ∙ ap num (field-take 38 2 (certificate_length (past_body bs)) (past_body bs) (omega arith))
+  set_is = ap (number 38 2) certificate_part_is ∙ ap num (field-take 38 2 (certificate_length (past_body bs)) (past_body bs) (omega arith))
 
-  pub few-orders : number 42 1 x ≤ 8
-  few-orders = let n = count-is in let m = l.3 in omega arith
+  pub few_orders : number 42 1 x ≤ 8
+  few_orders = let n = count_is in let m = l.3 in omega arith
 
-  pub body-whole : length x ≡ body_length x
-  body-whole =
-      let n = count-is in
+  pub body_whole : length x ≡ body_length x
+  body_whole =
+      let n = count_is in
       let m = length-take b bs in
       let h = ap length e in
       omega (arith, l.1, l.6)
 
-  pub certificate-whole : length y ≡ certificate_length y
-  certificate-whole =
+  pub certificate_whole : length y ≡ certificate_length y
+  certificate_whole =
       let n = ap ones set_is in
       let m = length-take c (drop b bs) in
       let d = length-drop b bs in
       let h = ap length f in
       omega (arith, l.2, l.6)
 
-  pub seal-whole : length z ≡ 16
-  seal-whole =
+  pub seal_whole : length z ≡ 16
+  seal_whole =
       let m = length-drop c (drop b bs) in
       let d = length-drop b bs in
       let h = ap length g in
@@ -107,12 +107,12 @@ module _ (bs : List ℕ) (b c : ℕ) (l : Lengths bs (Some (b, c))) (x y z : Lis
     unfolding proposal_in
     value-is =
         let a = body ∙ ap body_in body_is in
-        let b' = certificate ∙ ap certificate_in certificate-part-is in
-        let c' = seal ∙ seal-is in
+        let b' = certificate ∙ ap certificate_in certificate_part_is in
+        let c' = seal ∙ seal_is in
         λ i. record { body = a i; certificate = b' i; seal = c' i }
 
     marks-are : (marked (codes "BD") x && marked (codes "CT") y) ≡ inner_marks bs
-    marks-are = rw (body_is, certificate-part-is)
+    marks-are = rw (body_is, certificate_part_is)
 
     pub read-unmarked : (marked (codes "BD") x && marked (codes "CT") y) ≡ false → Err Form ≡ read_proposal n bs
     unfolding read_proposal
@@ -137,25 +137,25 @@ module _ (bs : List ℕ) (b c : ℕ) (l : Lengths bs (Some (b, c))) (x y z : Lis
         let formed = and_parts (all_well_formed (orders_of p.body.orders)) (ltb p.body.parent.view p.body.view) stands.0 in
         let w : all_well_formed (orders_of (body_in x).orders) ≡ true = ap (λ (b' : Body). all_well_formed (orders_of b'.orders)) (sym body) ∙ formed.0 in
         let octets : Octets x = subst Octets (sym e) (All-take (λ (k : ℕ). k < 256) b bs o) in
-        sym (ap body_bytes body ∙ body_back x body-whole octets m.0 w)
+        sym (ap body_bytes body ∙ body_back x body_whole octets m.0 w)
 
 -- the value in the bytes after a vote's mark
 module _ (n : ℕ) (bs : List ℕ) (h : length bs ≡ 53) (v : Vote) (block : v.block ≡ key_at 0 bs) (voter : v.voter ≡ number 36 1 bs) (seal : v.seal ≡ drop 37 bs) where
-  vote-is : v ≡ vote_in bs
+  vote_is : v ≡ vote_in bs
   unfolding vote_in
-  vote-is = λ i. record { block = block i; voter = voter i; seal = seal i }
+  vote_is = λ i. record { block = block i; voter = voter i; seal = seal i }
 
   fits : eqb (length bs) 53 ≡ true
   fits = rw h
 
-  pub vote-fallen : vote_stands n v ≡ false → Err Form ≡ read_vote n bs
+  pub vote_fallen : vote_stands n v ≡ false → Err Form ≡ read_vote n bs
   unfolding read_vote
-  vote-fallen s = let s' = ap (vote_stands n) (sym vote-is) ∙ s in rw (fits, s')
+  vote_fallen s = let s' = ap (vote_stands n) (sym vote_is) ∙ s in rw (fits, s')
 
-  pub vote-read : vote_stands n v ≡ true → Ok (message.Vote v) ≡ read_vote n bs
+  pub vote_read : vote_stands n v ≡ true → Ok (message.Vote v) ≡ read_vote n bs
   unfolding read_vote
-  vote-read s =
-      let s' = ap (vote_stands n) (sym vote-is) ∙ s in rw (fits, s') (ap (λ (q : Vote). Ok (message.Vote q)) vote-is)
+  vote_read s =
+      let s' = ap (vote_stands n) (sym vote_is) ∙ s in rw (fits, s') (ap (λ (q : Vote). Ok (message.Vote q)) vote_is)
 
 -- the last 16 bytes of a vote
 pub vote_seal : (bs : List ℕ) → length bs ≡ 53 → take 16 (drop 37 bs) ≡ drop 37 bs

@@ -1,5 +1,5 @@
 -- Signers by their bits.
-use Rattle.std.proofs.Common.{◌≡◌, ℕ, zero, suc, ◌+◌, ◌-◌, ◌*◌, ◌/◌, ◌%◌, ◌^◌, ◌<◌, ◌≤◌, true, false, eqb, ltb, List, [], ◌∷◌, ◌++◌, map, length, get_or, set as set-at-place, replicate, sym, refl, ap, ◌∙◌, subst, le_refl, add-zero, add-suc, mod-lt, mod-eq_of_lt, add-sub_of_le, mul-zero, add-one, one-add, arith, lit<, pow_pos, eqb-true}
+use Rattle.std.proofs.Common.{◌≡◌, ℕ, zero, suc, ◌+◌, ◌-◌, ◌*◌, ◌/◌, ◌%◌, ◌^◌, ◌<◌, ◌≤◌, true, false, eqb, ltb, List, [], ◌∷◌, ◌++◌, map, length, get_or, set as set_at_place, replicate, sym, refl, ap, ◌∙◌, subst, le_refl, add-zero, add-suc, mod-lt, mod-eq_of_lt, add-sub_of_le, mul-zero, add-one, one-add, arith, lit<, pow_pos, eqb-true}
 use native.Mathlib.Nat.{div-eq_of_lt, mod-add-div, mod-one}
 use borrow.Author.Tests.{eqb-false}
 use lib.Count.{ones, ones_in, ones_cat}
@@ -7,7 +7,7 @@ use Rattle.std.proofs.lemmas.List.FromFn.{map-range_with_len_more, length-map-ra
 use Rattle.std.specs.List.{range_with_len}
 use Rattle.wire.specs.Bytes.{field}
 use Rattle.wire.specs.Read.{seal_in}
-use Rattle.wire.proofs.Filling.{fill_more, leave-more}
+use Rattle.wire.proofs.Filling.{fill_more, leave_more}
 use lib.Pow.{mod-pow-add}
 use Rattle.std.proofs.lemmas.List.{length-append, append-nil}
 use Rattle.std.proofs.lemmas.Bool.Decides.{nat_tests}
@@ -96,19 +96,19 @@ module _ (set : ℕ) (bs : List ℕ) (i : ℕ) (h : i < 16) where
   next : map (seal_in set bs) (range_with_len 0 (i + 1)) ≡ map (seal_in set bs) (range_with_len 0 i) ++ seal_in set bs i ∷ []
   next = map-range_with_len_more (seal_in set bs) 0 i i (omega arith)
 
-  pub spread-in : (seals : List (List ℕ)) (seal : List ℕ) → signed set i ≡ true → seal ≡ field (16 * before set i) 16 bs → seals ≡ spread set bs i → set-at-place seals i seal ≡ spread set bs (i + 1)
-  spread-in seals seal s e inv =
+  pub spread_in : (seals : List (List ℕ)) (seal : List ℕ) → signed set i ≡ true → seal ≡ field (16 * before set i) 16 bs → seals ≡ spread set bs i → set_at_place seals i seal ≡ spread set bs (i + 1)
+  spread_in seals seal s e inv =
       let here : seal ≡ seal_in set bs i = rw s e in
-      ap (λ (l : List (List ℕ)). set-at-place l i seal) inv ∙
+      ap (λ (l : List (List ℕ)). set_at_place l i seal) inv ∙
       fill_more (map (seal_in set bs) (range_with_len 0 i)) no_seal 16 i (length-map-range_with_len (seal_in set bs) 0 i) h seal ∙
       ap (λ (l : List (List ℕ)). l ++ replicate (16 - (i + 1)) no_seal)
       (ap (λ (x : List ℕ). map (seal_in set bs) (range_with_len 0 i) ++ x ∷ []) here ∙ sym next)
 
-  pub spread-out : (seals : List (List ℕ)) → signed set i ≡ false → seals ≡ spread set bs i → seals ≡ spread set bs (i + 1)
-  spread-out seals s inv =
+  pub spread_out : (seals : List (List ℕ)) → signed set i ≡ false → seals ≡ spread set bs i → seals ≡ spread set bs (i + 1)
+  spread_out seals s inv =
       let here : no_seal ≡ seal_in set bs i = rw s in
       inv ∙
-      leave-more (map (seal_in set bs) (range_with_len 0 i)) no_seal 16 i (length-map-range_with_len (seal_in set bs) 0 i) h ∙
+      leave_more (map (seal_in set bs) (range_with_len 0 i)) no_seal 16 i (length-map-range_with_len (seal_in set bs) 0 i) h ∙
       ap (λ (l : List (List ℕ)). l ++ replicate (16 - (i + 1)) no_seal)
       (ap (λ (x : List ℕ). map (seal_in set bs) (range_with_len 0 i) ++ x ∷ []) here ∙ sym next)
 

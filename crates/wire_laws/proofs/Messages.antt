@@ -23,7 +23,7 @@ use Rattle.wire.specs.declared.statement.Statement.{Statement}
 use Rattle.wire.specs.declared.unreadable.Unreadable.{Unreadable}
 use Rattle.wire.proofs.Bodies.{body_forth, body_back, cut, be_field, key_back, mark_is}
 use Rattle.wire.proofs.Numbers.{num_be}
-use Rattle.wire.proofs.Proposals.{fit, read-stands, vote-read, body-whole, certificate-whole}
+use Rattle.wire.proofs.Proposals.{fit, read-stands, vote_read, body_whole, certificate_whole}
 use Rattle.wire.proofs.Sequences.{length-orders_in}
 use Rattle.wire.proofs.Signing.{before-all, packed_size}
 use Rattle.wire.proofs.Sizes.{length-proposal, length_body, length-certificate, length-key}
@@ -103,7 +103,7 @@ module _ (n : ℕ) (v : Vote) (h : VoteFits v) (s : vote_stands n v ≡ true) wh
       let block : v.block ≡ key_at 0 bs = λ i. record { view = sym (num_be 4 v.block.view h.block.view) i; name = sym name i } in
       let voter : v.voter ≡ number 36 1 bs = sym (ap (λ (l : List ℕ). num (take 1 l)) past ∙ num_be 1 v.voter h.voter) in
       let last : v.seal ≡ drop 37 bs = sym (sym (drop-drop 1 32 (v.block.name ++ x)) ∙ ap (drop 1) past) in
-      sym (vote-read n bs (omega arith) v block voter last s)
+      sym (vote_read n bs (omega arith) v block voter last s)
 
 pub message_forth : (n : ℕ) (m : Message) → WellFormed n m → read n (message_bytes m) ≡ Ok m
 message_forth n (message.Proposal p) h = proposal_forth n p h.0 h.1
@@ -130,8 +130,8 @@ proposal_back n bs o f m s =
     let stands = and_parts (body_stands (body_in (body_part bs))) _ s in
     let formed = and_parts (all_well_formed (orders_of (body_in (body_part bs)).orders)) _ stands.0 in
     let past : Octets (past_body bs) = All-drop (λ (k : ℕ). k < 256) (body_length bs) bs o in
-    let x = body_back (body_part bs) (body-whole bs _ _ l _ _ _ refl refl refl) (All-take (λ (k : ℕ). k < 256) (body_length bs) bs o) marks.0 formed.0 in
-    let y = certificate_back (certificate_part bs) (certificate-whole bs _ _ l _ _ _ refl refl refl) (All-take (λ (k : ℕ). k < 256) (certificate_length (past_body bs)) (past_body bs) past) marks.1 in
+    let x = body_back (body_part bs) (body_whole bs _ _ l _ _ _ refl refl refl) (All-take (λ (k : ℕ). k < 256) (body_length bs) bs o) marks.0 formed.0 in
+    let y = certificate_back (certificate_part bs) (certificate_whole bs _ _ l _ _ _ refl refl refl) (All-take (λ (k : ℕ). k < 256) (certificate_length (past_body bs)) (past_body bs) past) marks.1 in
     (λ i. codes "PR" ++ (x i ++ (y i ++ seal_part bs))) ∙
     ap (λ (r : List ℕ). codes "PR" ++ r)
     (ap (λ (r : List ℕ). body_part bs ++ r) (take-append-drop (certificate_length (past_body bs)) (past_body bs)) ∙ take-append-drop (body_length bs) bs)

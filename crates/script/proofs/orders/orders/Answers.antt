@@ -1,7 +1,7 @@
 use Rattle.std.proofs.Common.{◌≡◌, [], ◌∷◌, ◌++◌, vec_items, arith}
 use Rattle.std.proofs.lemmas.Result.{err_from_is_err_and}
 use Rattle.std.proofs.lemmas.Bool.Decides.{nat_tests}
-use Rattle.script.proofs.OrderLists.{orders_more, orders-all, orders-fault, orders-left}
+use Rattle.script.proofs.OrderLists.{orders_more, orders_all, orders_fault, orders_left}
 use Rattle.script.proofs.orders.orders.Goals as goal
 
 pub returns-in_err-order : goal.returns-in_err-order
@@ -9,7 +9,7 @@ returns-in_err-order c =
     let p = err_from_is_err_and c.from_residual.result c.from_residual.ensures.1 in
     rw (p.1, p.2)
     (λ memory other.
-    orders-fault _ _ _ _ _ c.loop-due.invariant c.is_empty-due.ensures c.loop-due-test.true (c.in_err-order.ensures memory) other.0 other.1)
+    orders_fault _ _ _ _ _ c.loop-due.invariant c.is_empty-due.ensures c.loop-due-test.true (c.in_err-order.ensures memory) other.0 other.1)
 
 pub loop-due-preserved : goal.loop-due-preserved
 loop-due-preserved c =
@@ -24,7 +24,7 @@ returns-in_err-end c =
     let p = err_from_is_err_and c.from_residual-in_err-end.result c.from_residual-in_err-end.ensures.1 in
     rw (p.1, p.2)
     (λ memory other.
-    orders-left _ _ _ _ _ c.loop-due.invariant _ c.is_empty-due.ensures c.loop-due-test.false c.in_err-end.ensures other.0 other.1)
+    orders_left _ _ _ _ _ c.loop-due.invariant _ c.is_empty-due.ensures c.loop-due-test.false c.in_err-end.ensures other.0 other.1)
 
 pub returns : goal.returns
-returns c = orders-all _ _ _ _ _ c.loop-due.invariant c.is_empty-due.ensures c.loop-due-test.false c.in_ok-end.ensures
+returns c = orders_all _ _ _ _ _ c.loop-due.invariant c.is_empty-due.ensures c.loop-due-test.false c.in_ok-end.ensures

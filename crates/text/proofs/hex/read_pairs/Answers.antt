@@ -3,7 +3,7 @@ use Rattle.std.proofs.lemmas.Bool.Decides.{nat_tests}
 use Rattle.std.proofs.ByRecursion.{All-push}
 use Rattle.std.proofs.lemmas.List.{drop_all}
 use Rattle.text.specs.Hexadecimal.{hex_pairs}
-use Rattle.text.proofs.Pairs.{none_odd, pairs_next, none-next}
+use Rattle.text.proofs.Pairs.{none_odd, pairs_next, none_next}
 use Rattle.text.proofs.hex.read_pairs.Goals as goal
 
 pub returns-then-digits-ne0 : goal.returns-then-digits-ne0
@@ -11,7 +11,7 @@ returns-then-digits-ne0 c = λ _. none_odd c.args.digits.now (omega arith)
 
 pub returns-in_default : goal.returns-in_default
 returns-in_default c =
-    λ _. none-next (vec_items c.loop-i.bytes) c.args.digits.now c.loop-i.i (omega arith) c.loop-i.invariant.1 c.in_default.ensures
+    λ _. none_next (vec_items c.loop-i.bytes) c.args.digits.now c.loop-i.i (omega arith) c.loop-i.invariant.1 c.in_default.ensures
 
 pub loop-i-preserved : goal.loop-i-preserved
 loop-i-preserved c =

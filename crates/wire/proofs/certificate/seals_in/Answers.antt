@@ -1,7 +1,7 @@
 use Rattle.std.proofs.Common.{◌≡◌, ℕ, ◌<◌, sym, refl, ap, ◌∙◌, arith, rules}
 use Rattle.wire.specs.Bytes.{field}
 use Rattle.wire.specs.Read.{seals_in}
-use Rattle.wire.proofs.Signing.{before_none, before_in, before_out, before_signer, spread, spread-in, spread-out}
+use Rattle.wire.proofs.Signing.{before_none, before_in, before_out, before_signer, spread, spread_in, spread_out}
 use Rattle.wire.proofs.certificate.seals_in.Goals as goal
 use Rattle.wire.proofs.certificate.seals_in.Goals.{then-has, else-has}
 
@@ -22,13 +22,13 @@ loop-i-preserved c =
           let more = before_in c.args.set c.loop-i.i s in (
             omega (arith, w.at-is),
             w.seals-is ∙
-                spread-in c.args.set c.args.bytes.now c.loop-i.i c.loop-i-test.true _ _ s
+                spread_in c.args.set c.args.bytes.now c.loop-i.i c.loop-i-test.true _ _ s
                 (w.seal_at.ensures ∙ ap (λ (at : ℕ). field at 16 c.args.bytes.now) c.loop-i.invariant.0) c.loop-i.invariant.1,
           )
       | else-has w ↦
           let s = sym c.has.ensures ∙ w.if-has.false in
           let more = before_out c.args.set c.loop-i.i s in
-          (omega (arith, w.at-is), w.seals-is ∙ spread-out c.args.set c.args.bytes.now c.loop-i.i c.loop-i-test.true _ s c.loop-i.invariant.1)
+          (omega (arith, w.at-is), w.seals-is ∙ spread_out c.args.set c.args.bytes.now c.loop-i.i c.loop-i-test.true _ s c.loop-i.invariant.1)
     ]
 
 pub returns : goal.returns

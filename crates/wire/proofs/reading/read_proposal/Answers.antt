@@ -1,7 +1,7 @@
 use Rattle.std.proofs.Common.{ℕ, ◌<◌, sym, arith}
 use Rattle.std.proofs.ByRecursion.{All-from_get_or}
 use Rattle.wire.specs.Read.{read_proposal}
-use Rattle.wire.proofs.Proposals.{body_is, certificate-part-is, seal-is, few-orders, body-whole, certificate-whole, seal-whole, read-unmarked, read-fallen, read-stands, body-named}
+use Rattle.wire.proofs.Proposals.{body_is, certificate_part_is, seal_is, few_orders, body_whole, certificate_whole, seal_whole, read-unmarked, read-fallen, read-stands, body-named}
 use Rattle.wire.proofs.reading.read_proposal.Goals as goal
 
 pub returns-in_default : goal.returns-in_default
@@ -14,10 +14,10 @@ split-requires c = let l = c.in-Some.ensures in record { whole = l.6; fits = ome
 pub decode-value-requires : goal.decode-value-requires
 decode-value-requires c =
     record {
-      few = few-orders c.args.bytes.now c.in-Some.body_length c.in-Some.certificate_length c.in-Some.ensures _ _ _ c.split.ensures.body.1 c.split.ensures.certificate.1 c.split.ensures.seal.1;
-      body = body-whole c.args.bytes.now c.in-Some.body_length c.in-Some.certificate_length c.in-Some.ensures _ _ _ c.split.ensures.body.1 c.split.ensures.certificate.1 c.split.ensures.seal.1;
-      certificate = certificate-whole c.args.bytes.now c.in-Some.body_length c.in-Some.certificate_length c.in-Some.ensures _ _ _ c.split.ensures.body.1 c.split.ensures.certificate.1 c.split.ensures.seal.1;
-      seal = seal-whole c.args.bytes.now c.in-Some.body_length c.in-Some.certificate_length c.in-Some.ensures _ _ _ c.split.ensures.body.1 c.split.ensures.certificate.1 c.split.ensures.seal.1;
+      few = few_orders c.args.bytes.now c.in-Some.body_length c.in-Some.certificate_length c.in-Some.ensures _ _ _ c.split.ensures.body.1 c.split.ensures.certificate.1 c.split.ensures.seal.1;
+      body = body_whole c.args.bytes.now c.in-Some.body_length c.in-Some.certificate_length c.in-Some.ensures _ _ _ c.split.ensures.body.1 c.split.ensures.certificate.1 c.split.ensures.seal.1;
+      certificate = certificate_whole c.args.bytes.now c.in-Some.body_length c.in-Some.certificate_length c.in-Some.ensures _ _ _ c.split.ensures.body.1 c.split.ensures.certificate.1 c.split.ensures.seal.1;
+      seal = seal_whole c.args.bytes.now c.in-Some.body_length c.in-Some.certificate_length c.in-Some.ensures _ _ _ c.split.ensures.body.1 c.split.ensures.certificate.1 c.split.ensures.seal.1;
     }
 
 pub returns-then-not-inner_marks : goal.returns-then-not-inner_marks
@@ -44,8 +44,8 @@ returns c =
       message = read-stands c.args.bytes.now c.in-Some.body_length c.in-Some.certificate_length c.in-Some.ensures _ _ _ c.split.ensures.body.1 c.split.ensures.certificate.1 c.split.ensures.seal.1 c.args.n c.decode-value.result c.decode-value.ensures.body c.decode-value.ensures.certificate c.decode-value.ensures.seal marks stands;
       parts = (
         (c.split.ensures.body.0, body_is c.args.bytes.now c.in-Some.body_length c.in-Some.certificate_length c.in-Some.ensures _ _ _ c.split.ensures.body.1 c.split.ensures.certificate.1 c.split.ensures.seal.1),
-        (omega (arith, l.1, c.split.ensures.certificate.0), certificate-part-is c.args.bytes.now c.in-Some.body_length c.in-Some.certificate_length c.in-Some.ensures _ _ _ c.split.ensures.body.1 c.split.ensures.certificate.1 c.split.ensures.seal.1),
-        (omega (arith, l.1, l.2, c.split.ensures.seal.0), seal-is c.args.bytes.now c.in-Some.body_length c.in-Some.certificate_length c.in-Some.ensures _ _ _ c.split.ensures.body.1 c.split.ensures.certificate.1 c.split.ensures.seal.1),
+        (omega (arith, l.1, c.split.ensures.certificate.0), certificate_part_is c.args.bytes.now c.in-Some.body_length c.in-Some.certificate_length c.in-Some.ensures _ _ _ c.split.ensures.body.1 c.split.ensures.certificate.1 c.split.ensures.seal.1),
+        (omega (arith, l.1, l.2, c.split.ensures.seal.0), seal_is c.args.bytes.now c.in-Some.body_length c.in-Some.certificate_length c.in-Some.ensures _ _ _ c.split.ensures.body.1 c.split.ensures.certificate.1 c.split.ensures.seal.1),
         body-named c.args.bytes.now c.in-Some.body_length c.in-Some.certificate_length c.in-Some.ensures _ _ _ c.split.ensures.body.1 c.split.ensures.certificate.1 c.split.ensures.seal.1 c.args.n c.decode-value.result c.decode-value.ensures.body c.decode-value.ensures.certificate c.decode-value.ensures.seal octets marks stands,
       );
     }
