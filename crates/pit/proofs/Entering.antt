@@ -1,5 +1,5 @@
 -- A request that was entered and told.
-use Rattle.std.proofs.Common.{◌≡◌, ℕ, List, ◌++◌, length, IfOk, vec_items, Result, refl, ap, ◌∙◌}
+use Rattle.std.proofs.Common.{◌≡◌, ℕ, List, ◌++◌, length, IfOk, vec_items, Result, refl, ◌∙◌}
 use Rattle.std.proofs.lemmas.Result.{IfOk-weaker}
 use Rattle.parts.specs.Image.{marks_in}
 use Rattle.host.specs.Kinds.{either_rule, keys_of, world_of}
@@ -11,7 +11,7 @@ use Rattle.console.specs.Requested.{call_of, keys_from, world_from}
 use Rattle.console.specs.Seen.{seen}
 use Rattle.console.specs.declared.answers.Reply.{Reply}
 use Rattle.console.specs.declared.request.Request.{Request}
-use Rattle.pit.specs.Seats.{Entered, Plays, seat_keys, seat_world, state_of}
+use Rattle.pit.specs.Seats.{Plays, seat_keys, seat_world, state_of}
 use Rattle.pit.specs.Told.{answer_told}
 use Rattle.pit.specs.declared.seat.Seat.{Seat}
 

@@ -1,6 +1,5 @@
 -- What holds over a lent shelf holds over the vector that lent it.
-use Rattle.std.proofs.Common.{◌≡◌, ℕ, ◌-◌, List, ◌++◌, length, take, sym, ap, ◌∙◌, subst, arith}
-use Rattle.std.proofs.lemmas.List.{take_at}
+use Rattle.std.proofs.Common.{◌≡◌, ℕ, List, ap, subst}
 use Rattle.parts.specs.Image.{image, marks_in, no_marks}
 use Rattle.parts.specs.declared.store.Marks.{Marks}
 use Rattle.rules.specs.Blocks.{Slot}
@@ -8,10 +7,6 @@ use Rattle.wire.specs.Bytes.{be, num}
 
 pub lent : (P : List Slot → List Slot → Type 0) {xs ys us vs : List Slot} → xs ≡ ys → us ≡ vs → P xs us → P ys vs
 lent P {xs} {ys} {us} {vs} e f p = subst (λ (u : List Slot). P ys u) f (subst (λ (x : List Slot). P x us) e p)
-
--- what was written at the start is what is cut off there
-pub cut_off : (n : ℕ) (bytes rest all : List ℕ) → n ≡ length bytes → all ≡ bytes ++ rest → take (n - 0) all ≡ bytes
-cut_off n bytes rest all e f = ap (λ (l : List ℕ). take (n - 0) l) f ∙ take_at bytes rest (n - 0) (omega (arith, e))
 
 -- likewise, with the number of slots and what the store says
 pub opened_over :

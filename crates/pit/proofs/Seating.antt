@@ -1,5 +1,5 @@
 -- A seat that was read off the list of seats.
-use Rattle.std.proofs.Common.{◌≡◌, ℕ, ◌<◌, ◌≤◌, List, length, get_or, Some, None, Option, sym, ap, ◌∙◌}
+use Rattle.std.proofs.Common.{◌≡◌, ℕ, ◌<◌, ◌≤◌, List, length, get_or, Some, None, Option, sym, ◌∙◌}
 use Rattle.std.proofs.lemmas.List.{get_or_default, get_or_past}
 
 pub none_past : {A : Type 0} (xs : List (Option A)) (i : ℕ) → length xs ≤ i → None ≡ get_or xs i None

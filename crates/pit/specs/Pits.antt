@@ -1,5 +1,5 @@
 -- The consoles of a pit, and what a line does to them.
-use Rattle.std.specs.Prelude.{◌≡◌, ℕ, Bool, List, Some, None, vec_items, Option, slice_index_or, slice_set}
+use Rattle.std.specs.Prelude.{◌≡◌, ℕ, List, Some, None, vec_items, Option, slice_index_or, slice_set}
 use Rattle.host.specs.declared.board.EitherBoard.{EitherBoard}
 use Rattle.host.specs.declared.seals.EitherSeals.{EitherSeals}
 use Rattle.console.specs.declared.request.Request.{Request}

@@ -1,5 +1,5 @@
 -- A console with all that it is lent.
-use Rattle.std.specs.Prelude.{◌≡◌, ℕ, List, ◌++◌, length, Some, None, Ok, Err, vec_items, Option}
+use Rattle.std.specs.Prelude.{◌≡◌, ℕ, List, ◌++◌, length, Some, Ok, Err, vec_items, Option}
 use Rattle.parts.specs.Image.{marks_in}
 use Rattle.parts.specs.Meaning.{Keys}
 use Rattle.rules.specs.State.{State}

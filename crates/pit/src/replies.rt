@@ -8,6 +8,7 @@ ghost use Rattle.pit.specs.Told.{answer_told, handed_told};
 use console::answers::{Heard, Proposed, Reply, Ticked};
 use console::vote::SealedVote;
 use rules::refusal::Refusal;
+use std::alloc::AllocError;
 use std::fmt;
 use text::hex::Hex;
 use wire::message::Vote;
@@ -25,35 +26,33 @@ impl fmt::Display for Handed {
 }
 
 // Adds a refusal by its number.
-pub fn write_refused(text: &mut String, refusal: &Refusal) -> fmt::Result
+pub fn write_refused(text: &mut String, refusal: &Refusal) -> Result<(), AllocError>
     ensures { OnOk result (string_bytes text.new ≡ string_bytes text.old ++ answer_told (refused refusal.now) 0 []) }
 {
     write!(text, "refused {}", refusal.number())
 }
 
 // The bytes of a vote message, written into the room for them.
-fn bytes_of<'a>(message: &SealedVote, room: &'a mut [u8]) -> Option<&'a [u8]>
-    ensures { IfSome result (λ bytes. bytes.now ≡ vote_bytes message.now.vote) }
+fn bytes_of<'a>(message: &SealedVote, room: &'a mut [u8; Vote::LENGTH]) -> &'a [u8]
+    ensures { result.now ≡ vote_bytes message.now.vote }
 {
-    let length = message.write(room)?;
-    if length > room.len() {
-        return None;
+    let vote = message.vote();
+    match vote.write(room) {
+        Some(length) => &room[0..length],
+        None => &room[0..0],
     }
-    Some(&room[0..length])
 }
 
 // Adds a vote message by its bytes.
-fn write_vote(text: &mut String, message: &SealedVote, handed: usize) -> fmt::Result
+fn write_vote(text: &mut String, message: &SealedVote, handed: usize) -> Result<(), AllocError>
     ensures { OnOk result (string_bytes text.new ≡ string_bytes text.old ++ answer_told (vote message.now.vote) handed []) }
 {
     let mut room = [0; Vote::LENGTH];
-    match bytes_of(message, &mut room) {
-        Some(bytes) => write!(text, "vote {}{}", Hex(bytes), Handed(handed)),
-        None => Err(fmt::Error),
-    }
+    let bytes = bytes_of(message, &mut room);
+    write!(text, "vote {}{}", Hex(bytes), Handed(handed))
 }
 
-fn write_ticked(text: &mut String, ticked: &Ticked) -> fmt::Result
+fn write_ticked(text: &mut String, ticked: &Ticked) -> Result<(), AllocError>
     ensures { OnOk result (string_bytes text.new ≡ string_bytes text.old ++ answer_told (ticked_answer ticked.now) (ticked_handed ticked.now) []) }
 {
     match ticked {
@@ -64,17 +63,14 @@ fn write_ticked(text: &mut String, ticked: &Ticked) -> fmt::Result
 }
 
 // Adds a proposal by its bytes, which stand at the start of the output.
-fn write_proposed(text: &mut String, proposed: &Proposed, out: &[u8]) -> fmt::Result
+fn write_proposed(text: &mut String, proposed: &Proposed, out: &[u8]) -> Result<(), AllocError>
     ensures { OnOk result (string_bytes text.new ≡ string_bytes text.old ++ answer_told (proposed_answer proposed.now) (proposed_handed proposed.now) out.now) }
 {
-    if proposed.length > out.len() {
-        return Err(fmt::Error);
-    }
-    let message = Hex(&out[0..proposed.length]);
+    let message = Hex(&out[0..proposed.length.min(out.len())]);
     write!(text, "proposal {}{}", message, Handed(proposed.handed))
 }
 
-fn write_heard(text: &mut String, heard: &Heard) -> fmt::Result
+fn write_heard(text: &mut String, heard: &Heard) -> Result<(), AllocError>
     ensures { OnOk result (string_bytes text.new ≡ string_bytes text.old ++ answer_told (heard_answer heard.now) (heard_handed heard.now) []) }
 {
     match heard {
@@ -84,7 +80,7 @@ fn write_heard(text: &mut String, heard: &Heard) -> fmt::Result
 }
 
 // Adds the answer of a call, which left this output.
-pub fn write_reply(text: &mut String, reply: &Reply, out: &[u8]) -> fmt::Result
+pub fn write_reply(text: &mut String, reply: &Reply, out: &[u8]) -> Result<(), AllocError>
     ensures { OnOk result (string_bytes text.new ≡ string_bytes text.old ++ answer_told (reply_answer reply.now) (reply_handed reply.now) out.now) }
 {
     match reply {

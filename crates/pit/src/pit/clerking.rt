@@ -33,7 +33,8 @@ fn spend(request: Request<'_, EitherSeals, EitherBoard>) {
     match request {
         Request::Propose(turn, _) => turn.pass(),
         Request::Pass(turn) => turn.pass(),
-        Request::Open(_, _) => {}
+        Request::Open => {}
+        Request::OpenWith(_, _) => {}
         Request::Tick(_) => {}
         Request::Hear(_) => {}
     }
@@ -165,7 +166,7 @@ impl Pit {
         match &mut self.seats[at] {
             Some(seat) => {
                 seat.lend(shelf);
-                Ok(seat.play(text, Request::Open(seals, board), &mut [])?)
+                Ok(seat.play(text, Request::OpenWith(seals, board), &mut [])?)
             }
             slot => {
                 *slot = Some(Seat::open(permit, seals, board, shelf));

@@ -14,7 +14,7 @@ use console::turn::Turn;
 use host::board::EitherBoard;
 use host::seals::EitherSeals;
 use parts::store::image::Image;
-use std::fmt;
+use std::alloc::AllocError;
 
 impl Seat {
     // Enters one line: makes the call over the console's own shelf.
@@ -60,7 +60,7 @@ impl Seat {
         text: &mut String,
         request: Request<'_, EitherSeals, EitherBoard>,
         out: &mut [u8],
-    ) -> fmt::Result
+    ) -> Result<(), AllocError>
         ensures { OnOk result (Plays self.old request.entry out.old self.new (string_bytes text.old) (string_bytes text.new)) }
     {
         let reply = self.enter(request, out);

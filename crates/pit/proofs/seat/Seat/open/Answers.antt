@@ -1,7 +1,6 @@
-use Rattle.std.proofs.Common.{◌≡◌, ℕ, List, length, sym, refl, ap, arith}
+use Rattle.std.proofs.Common.{◌≡◌, List, length, sym, refl, ap, arith}
 use Rattle.std.proofs.lemmas.List.{with_items_is}
 use Rattle.parts.specs.Image.{marks_in}
-use Rattle.parts.specs.declared.store.Marks.{Marks}
 use Rattle.rules.specs.Blocks.{Slot}
 use Rattle.rules.specs.State.{opened}
 use Rattle.host.specs.Kinds.{keys_of, world_of}
