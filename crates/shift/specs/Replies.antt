@@ -1,5 +1,5 @@
 -- What the clerk answers.
-use Rattle.std.specs.Prelude.{◌≡◌, ℕ, ◌⊎◌, List, [], ◌∷◌, ◌++◌, take, Some, None, Ok, Err, vec_items, string_bytes, codes, Option, Result, String}
+use Rattle.std.specs.Prelude.{◌≡◌, ℕ, ◌⊎◌, List, [], ◌∷◌, ◌++◌, take, Some, None, Ok, Err, vec_items, string_bytes, codes, Option, Result, String, ◌≢◌}
 use Rattle.std.specs.declared.alloc.Global.{Global}
 use Rattle.digest.specs.Sha256.{digest}
 use Rattle.digest.specs.Hmac.{hmac}
@@ -14,7 +14,10 @@ use Rattle.script.specs.Lines.{Blank, Comment}
 use Rattle.script.specs.declared.command.NewBoard.{NewBoard}
 use Rattle.wire.specs.declared.order.Order.{Order}
 use Rattle.shift.specs.declared.stop.Stop.{Stop}
-use Rattle.shift.specs.declared.stop.Stop.TheVariants.{Line}
+use Rattle.shift.specs.declared.stop.Stop.TheVariants.{Line, Input, Output}
+use Rattle.shift.specs.declared.stop.Stop.TheVariants as stop
+use Rattle.pit.specs.declared.trouble.Trouble.{Trouble}
+use Rattle.pit.specs.declared.trouble.Trouble.TheVariants.{NoMemory}
 use Rattle.telling.specs.Messages.{reading_told}
 use Rattle.telling.specs.Tries.{trial_told}
 
@@ -52,8 +55,34 @@ Replied (Look console) before after = Unit {0}
 Replied (Store console) before after = Unit {0}
 Replied (Board console) before after = Unit {0}
 
--- what playing a line answers: nothing where it is passed over, else the reply to the command that it says, as a line
+-- the command is one that needs a pit, or makes one
+abbrev pub OfPit : Command → Type 0
+OfPit (Name bytes) = ⊥
+OfPit (Mac key bytes) = ⊥
+OfPit (Read n bytes) = ⊥
+OfPit (Try board orders) = ⊥
+OfPit (Pit n seals) = Unit {0}
+OfPit (Key console key) = Unit {0}
+OfPit (Open console slots board) = Unit {0}
+OfPit (Tick console t) = Unit {0}
+OfPit (Propose console turn space orders) = Unit {0}
+OfPit (Pass turn) = Unit {0}
+OfPit (Hear console bytes) = Unit {0}
+OfPit (Shelf console slots) = Unit {0}
+OfPit (Look console) = Unit {0}
+OfPit (Store console) = Unit {0}
+OfPit (Board console) = Unit {0}
+
+-- what can keep a command from its answer: want of memory, and the pit at a command of a pit
+abbrev pub Hinders : Trouble → Command → Type 0
+Hinders trouble c = (trouble ≢ NoMemory) → OfPit c
+
+-- what playing a line answers: nothing where it is passed over, else the reply to the command that it says, as a line; and where
+-- it answers neither, memory failed, or the line says no command, or it says one of a pit
 abbrev pub Answers : List ℕ → Result (Option (String Global)) Stop → Type 0
 Answers line (Ok None) = Blank line ⊎ Comment line
 Answers line (Ok (Some answer)) = (c : Command) × Says (split line) c × Replied c [] (string_bytes answer)
-Answers line (Err e) = (fault : Fault) → e ≡ Line fault → Refutes fault ((c : Command) × Says (split line) c)
+Answers line (Err (Line fault)) = Refutes fault ((c : Command) × Says (split line) c)
+Answers line (Err (stop.Pit trouble)) = (c : Command) × Says (split line) c × OfPit c
+Answers line (Err Input) = ⊥
+Answers line (Err Output) = ⊥

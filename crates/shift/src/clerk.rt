@@ -1,6 +1,6 @@
 // The clerk of a pit: it keeps what the lines before have left, and answers one line at a time.
-ghost use Rattle.std.specs.Prelude.{string_bytes, OnOk};
-ghost use Rattle.shift.specs.Replies.{Replied, Answers};
+ghost use Rattle.std.specs.Prelude.{string_bytes, OnOk, IfErr};
+ghost use Rattle.shift.specs.Replies.{Replied, Answers, Hinders};
 
 use crate::stop::Stop;
 use crate::{consoles, records};
@@ -8,6 +8,7 @@ use commands::command::Command;
 use commands::lines::read_line;
 use pit::pit::Pit;
 use pit::trouble::Trouble;
+use script::fault::Fault;
 use std::alloc::Global;
 
 #[derive(Drop)]
@@ -23,7 +24,8 @@ impl Clerk {
 
     // Adds the answer to a command, a line, to the text.
     fn answer(&mut self, heap: Global, command: Command, text: &mut String) -> Result<(), Trouble>
-        ensures { OnOk result (Replied command (string_bytes text.old) (string_bytes text.new)) }
+        ensures reply { OnOk result (Replied command (string_bytes text.old) (string_bytes text.new)) }
+        ensures trouble { IfErr result (λ e. Hinders e command) }
     {
         match command {
             Command::Name { bytes } => Ok(records::write_name(text, bytes.as_slice())?),
@@ -85,7 +87,10 @@ impl Clerk {
             return Ok(None);
         };
         let mut text = String::new(heap);
-        self.answer(heap, command, &mut text)?;
-        Ok(Some(text))
+        match self.answer(heap, command, &mut text) {
+            Ok(()) => Ok(Some(text)),
+            Err(Trouble::NoMemory) => Err(Stop::Line(Fault::NoMemory)),
+            Err(trouble) => Err(Stop::Pit(trouble)),
+        }
     }
 }

@@ -12,7 +12,7 @@ use pit::trouble::Trouble;
 use rules::refusal::Refusal;
 use script::command::NewBoard;
 use std::alloc::{AllocError, Global};
-use telling::boards::{write_assignment, write_tonnage};
+use telling::board_words::{write_assignment, write_tonnage};
 use text::hex::Hex;
 use wire::order::Order;
 

@@ -71,7 +71,10 @@ fn main(rt: HostRuntime) -> Result<(), Ended> {
 // Plays the lines one after another, each held only while it is played.
 fn play_sheet(rt: &HostRuntime) -> Result<(), Ended> {
     let mut clerk = Clerk::new();
-    let mut input = BufReader::new(rt.stdin());
+    let Ok(mut input) = BufReader::new(rt.alloc(), rt.stdin()) else {
+        let _ = eprintln!(rt; "shift: no memory left");
+        return Err(Ended);
+    };
     for number in 1..u64::MAX {
         let mut line = Vec::new(rt.alloc());
         let played = match input.read_until(b'\n', &mut line) {
