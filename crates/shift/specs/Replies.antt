@@ -7,7 +7,6 @@ use Rattle.text.specs.Hexadecimal.{hex_written}
 use Rattle.text.specs.Splitting.{split}
 use Rattle.commands.specs.declared.command.Command.{Command}
 use Rattle.commands.specs.declared.command.Command.TheVariants.{Name, Mac, Read, Try, Pit, Key, Open, Tick, Propose, Pass, Hear, Shelf, Look, Store, Board}
-use Rattle.script.specs.declared.fault.Fault.{Fault}
 use Rattle.commands.specs.Commands.{Says}
 use Rattle.script.specs.Faults.{Refutes}
 use Rattle.script.specs.Lines.{Blank, Comment}

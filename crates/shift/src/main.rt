@@ -1,4 +1,6 @@
 // Plays a shift sheet from standard input: one call a line, one answer a line.
+#![tactic(auto)]
+
 mod bench;
 mod clerk;
 mod consoles;
@@ -9,6 +11,7 @@ use bench::bench;
 use clerk::Clerk;
 use script::lines::without_newline;
 use std::io::{BufRead, BufReader, Write};
+use std::process::ExitCode;
 use std::{env, io};
 use stop::Stop;
 
@@ -52,10 +55,18 @@ fn asked_for(rt: &HostRuntime) -> io::Result<Task> {
     }
 }
 
-fn main(rt: HostRuntime) -> Result<(), Ended> {
-    match asked_for(&rt) {
-        Ok(Task::Sheet) => play_sheet(&rt),
-        Ok(Task::Bench { n, views }) => match bench(&rt, n, views) {
+// The status is 1 where the run ended early; what was wrong has been said by then.
+fn main(rt: HostRuntime) -> ExitCode {
+    match run(&rt) {
+        Ok(()) => ExitCode::SUCCESS,
+        Err(Ended) => ExitCode::FAILURE,
+    }
+}
+
+fn run(rt: &HostRuntime) -> Result<(), Ended> {
+    match asked_for(rt) {
+        Ok(Task::Sheet) => play_sheet(rt),
+        Ok(Task::Bench { n, views }) => match bench(rt, n, views) {
             Ok(()) => Ok(()),
             Err(_) => Err(Ended),
         },
