@@ -225,17 +225,17 @@ written_alone :
     (w : Roster) (order : Order) (c : Change) (truck j : ℕ) →
     change w order ≡ Some c →
     OneEach w.lines → shown truck_of c.line ≡ Some truck → truck_at w.lines j ≡ Some truck → j ≡ c.at
-written_alone w (Send sent-truck place) c truck j e each is h =
-    let s = sending w sent-truck place c e in
-    let t : Some sent-truck ≡ Some truck = sym (ap (λ (l : Option Line). shown truck_of l) s.line) ∙ is in
+written_alone w (Send sent_truck place) c truck j e each is h =
+    let s = sending w sent_truck place c e in
+    let t : Some sent_truck ≡ Some truck = sym (ap (λ (l : Option Line). shown truck_of l) s.line) ∙ is in
     let g = h ∙ sym t in
     ⊎_elim
-    (λ own. each sent-truck j c.at g (line_found sent-truck w.lines c.at own).1)
+    (λ own. each sent_truck j c.at g (line_found sent_truck w.lines c.at own).1)
     (λ new. absurd (new.1 j (in_table w.lines truck j h) g))
     s.seated.was
-written_alone w (Release sent-truck) c truck j e each is h =
-    absurd (some_not_none truck (sym is ∙ ap (λ (l : Option Line). shown truck_of l) (releasing w sent-truck c e).1))
-written_alone w (Load sent-truck place amount) c truck j e each is h = absurd (loading w sent-truck place amount c e)
+written_alone w (Release sent_truck) c truck j e each is h =
+    absurd (some_not_none truck (sym is ∙ ap (λ (l : Option Line). shown truck_of l) (releasing w sent_truck c e).1))
+written_alone w (Load sent_truck place amount) c truck j e each is h = absurd (loading w sent_truck place amount c e)
 
 set_keeps :
     (lines : List (Option Line)) (at : ℕ) (l : Option Line) →
@@ -244,12 +244,12 @@ set_keeps :
     ((truck j : ℕ) → shown truck_of l ≡ Some truck → truck_at lines j ≡ Some truck → j ≡ at) → OneEach (set lines at l)
 set_keeps lines at l inside each alone truck i j a b =
     ⊎_elim
-    (λ ia. ⊎_elim (λ ja. ia ∙ sym ja) (λ jn. ia ∙ sym (alone truck j (at-line i ia a) (other j jn b))) (cases_eq j at))
-    (λ ia. ⊎_elim (λ ja. alone truck i (at-line j ja b) (other i ia a) ∙ sym ja) (λ jn. each truck i j (other i ia a) (other j jn b)) (cases_eq j at))
+    (λ ia. ⊎_elim (λ ja. ia ∙ sym ja) (λ jn. ia ∙ sym (alone truck j (at_line i ia a) (other j jn b))) (cases_eq j at))
+    (λ ia. ⊎_elim (λ ja. alone truck i (at_line j ja b) (other i ia a) ∙ sym ja) (λ jn. each truck i j (other i ia a) (other j jn b)) (cases_eq j at))
     (cases_eq i at)
   where
-    at-line : (k : ℕ) → k ≡ at → truck_at (set lines at l) k ≡ Some truck → shown truck_of l ≡ Some truck
-    at-line k e h =
+    at_line : (k : ℕ) → k ≡ at → truck_at (set lines at l) k ≡ Some truck → shown truck_of l ≡ Some truck
+    at_line k e h =
         sym (ap (λ (x : Option Line). shown truck_of x) (ap (λ (n : ℕ). get_or (set lines at l) n None) e ∙ get_or-set_same lines at l None inside)) ∙ h
 
     other : (k : ℕ) → (k ≡ at → ⊥) → truck_at (set lines at l) k ≡ Some truck → truck_at lines k ≡ Some truck

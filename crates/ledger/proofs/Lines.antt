@@ -36,21 +36,21 @@ reaches_step :
     (m : ℕ) (xs : List Slot) (head : Key) (b : Block) →
     reaches_within (suc m) xs head b ≡ (same_key b.body.parent head || onward false (reaches_within m xs head) (parent_of xs b))
 unfolding reaches_within
-reaches_step m xs head b = ap (λ (t : Bool). same_key b.body.parent head || t) (as-onward (parent_of xs b))
+reaches_step m xs head b = ap (λ (t : Bool). same_key b.body.parent head || t) (as_onward (parent_of xs b))
   where
-    as-onward : (x : Slot) → elim x [ None ↦ false | Some p ↦ reaches_within m xs head p ] ≡ onward false (reaches_within m xs head) x
-    as-onward None = refl
-    as-onward (Some p) = refl
+    as_onward : (x : Slot) → elim x [ None ↦ false | Some p ↦ reaches_within m xs head p ] ≡ onward false (reaches_within m xs head) x
+    as_onward None = refl
+    as_onward (Some p) = refl
 
 line_step :
     (m : ℕ) (xs : List Slot) (head : Key) (b : Block) →
     line_within (suc m) xs head b ≡ cond (same_key b.body.parent head) [] (onward [] (line_within m xs head) (parent_of xs b)) ++ (b.body ∷ [])
 unfolding line_within
-line_step m xs head b = ap (λ (t : List Body). cond (same_key b.body.parent head) [] t ++ (b.body ∷ [])) (as-onward (parent_of xs b))
+line_step m xs head b = ap (λ (t : List Body). cond (same_key b.body.parent head) [] t ++ (b.body ∷ [])) (as_onward (parent_of xs b))
   where
-    as-onward : (x : Slot) → elim x [ None ↦ [] | Some p ↦ line_within m xs head p ] ≡ onward [] (line_within m xs head) x
-    as-onward None = refl
-    as-onward (Some p) = refl
+    as_onward : (x : Slot) → elim x [ None ↦ [] | Some p ↦ line_within m xs head p ] ≡ onward [] (line_within m xs head) x
+    as_onward None = refl
+    as_onward (Some p) = refl
 
 reaches_fuel :
     (m k : ℕ) (xs : List Slot) (head : Key) (b : Block) →

@@ -1,5 +1,5 @@
 ghost use Rattle.std.specs.Prelude.{◌≡◌, length, replicate, Some, None};
-ghost use Rattle.rules.specs.Blocks.{block_key, has_room, held, is_held, put as put-block, slot_key, where_held};
+ghost use Rattle.rules.specs.Blocks.{block_key, has_room, held, is_held, put as put_block, slot_key, where_held};
 ghost use Rattle.rules.specs.Settle.{fresh};
 ghost use Rattle.shelf.specs.Slots.{Inside};
 ghost use Rattle.wire.specs.Format.{same_key};
@@ -70,7 +70,7 @@ fn fresh_block(body: &Body, name: &[u8; 32]) -> Block
 
 // Puts a new block into the lowest empty slot; a full shelf stays as it is.
 pub fn place(shelf: &mut [Option<Block>], body: &Body, name: &[u8; 32])
-    ensures { shelf.new ≡ put-block (fresh body.now name.now) shelf.old }
+    ensures { shelf.new ≡ put_block (fresh body.now name.now) shelf.old }
 {
     let block = fresh_block(body, name);
     let mut table = Shelf::over(shelf);

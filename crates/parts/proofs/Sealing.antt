@@ -92,10 +92,10 @@ ready_more all keys i k l m is inv =
     let u = take_more keys i [] m in
     cc
 
-pub ready-all :
+pub ready_all :
     (all : List MacKey) (keys : List (List ℕ)) (i : ℕ) →
     length all ≤ i → length keys ≤ i → take i (key_bytes all) ≡ take i keys → key_bytes all ≡ keys
-ready-all all keys i l m inv =
+ready_all all keys i l m inv =
     let n : length (key_bytes all) ≤ i = rw length-map l in
     let a = take_all i (key_bytes all) n in
     let b = take_all i keys m in

@@ -1,5 +1,5 @@
 ghost use Rattle.std.specs.Prelude.{◌≡◌, ℕ, ◌*◌, ◌≤◌, ◌&&◌, List, [], ◌++◌, length, drop, if◌then◌else◌, Some, None, ◌==◌, nat_lt};
-ghost use Rattle.rules.specs.Blocks.{Slot, is_held, put as put-block};
+ghost use Rattle.rules.specs.Blocks.{Slot, is_held, put as put_block};
 ghost use Rattle.rules.specs.Call.{passing, proposing};
 ghost use Rattle.rules.specs.Propose.{orders_stand, propose_body, turn_stands};
 ghost use Rattle.rules.specs.Settle.{fresh};
@@ -51,7 +51,7 @@ fn write_proposal(message: &Proposal, out: &mut [u8]) -> usize
 
 // Puts a block on the shelf unless it is held.
 fn place_if_new(shelf: &mut [Option<Block>], body: &Body, key: &Key)
-    ensures { shelf.new ≡ (if is_held key.now shelf.old then shelf.old else put-block (fresh body.now key.now.name) shelf.old) }
+    ensures { shelf.new ≡ (if is_held key.now shelf.old then shelf.old else put_block (fresh body.now key.now.name) shelf.old) }
 {
     if !is_held(shelf, key) {
         place(shelf, body, &key.name);

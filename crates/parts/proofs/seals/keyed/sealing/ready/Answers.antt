@@ -1,6 +1,6 @@
 use Rattle.std.proofs.Common.{◌<◌, ◌≤◌, length, ◌∙◌, arith}
 use Rattle.std.proofs.lemmas.List.{length-set}
-use Rattle.parts.proofs.Sealing.{ready_more, ready-all}
+use Rattle.parts.proofs.Sealing.{ready_more, ready_all}
 use Rattle.parts.proofs.seals.keyed.sealing.ready.Goals as goal
 
 pub loop-i-preserved : goal.loop-i-preserved
@@ -17,4 +17,4 @@ returns c =
     let long = c.loop-i.invariant.0 in
     let l : length c.loop-i.all ≤ c.loop-i.i = omega arith in
     let m : length c.args.keys.now ≤ c.loop-i.i = omega arith in
-    ready-all c.loop-i.all c.args.keys.now c.loop-i.i l m c.loop-i.invariant.1
+    ready_all c.loop-i.all c.args.keys.now c.loop-i.i l m c.loop-i.invariant.1
