@@ -13,8 +13,8 @@ use Rattle.wire.specs.declared.message.Vote.{Vote}
 use Rattle.wire.specs.declared.order.Order.{Order}
 use Rattle.console.specs.Does.{After, Did, Does}
 use Rattle.console.specs.Lines.{Advances}
-use Rattle.console.specs.Requested.{call_of, keys_from, world_from}
-use Rattle.console.specs.declared.request.Request.{Request}
+use Rattle.console.specs.Requested.{full_call_of, keys_from, world_from}
+use Rattle.console.specs.declared.request.FullRequest.{FullRequest}
 
 abbrev pub Silent : Outcome → Type 0
 Silent o = o.written ≡ []
@@ -72,14 +72,14 @@ did_advances rule keys s call w out after d pit i e =
 
 -- a request by the case that it was found to be
 pub entered_as :
-    {S B W : Type 0} (rule : W → Order → W) (keys : S → Keys) (world : B → W) (seals : S) (board : B) (s : State) (slots space : ℕ) (out : List ℕ) (after : After W) (q p : Request S B) →
+    {S B W : Type 0} (rule : W → Order → W) (keys : S → Keys) (world : B → W) (seals : S) (board : B) (s : State) (slots space : ℕ) (out : List ℕ) (after : After W) (q p : FullRequest S B) →
     q ≡ p →
-    Advances rule (keys_from keys p seals) s (call_of p slots space) (world_from world p board) out after →
-    Advances rule (keys_from keys q seals) s (call_of q slots space) (world_from world q board) out after
+    Advances rule (keys_from keys p seals) s (full_call_of p slots space) (world_from world p board) out after →
+    Advances rule (keys_from keys q seals) s (full_call_of q slots space) (world_from world q board) out after
 entered_as {S} {B} rule keys world seals board s slots space out after q p e a =
-    subst (λ (x : Request S B). Advances rule (keys_from keys x seals) s (call_of x slots space) (world_from world x board) out after) (sym e) a
+    subst (λ (x : FullRequest S B). Advances rule (keys_from keys x seals) s (full_call_of x slots space) (world_from world x board) out after) (sym e) a
 
 pub keys_as :
-    {S B : Type 0} (keys : S → Keys) (seals : S) (k : Keys) (q p : Request S B) →
+    {S B : Type 0} (keys : S → Keys) (seals : S) (k : Keys) (q p : FullRequest S B) →
     q ≡ p → k ≡ keys_from keys p seals → k ≡ keys_from keys q seals
-keys_as {S} {B} keys seals k q p e a = subst (λ (x : Request S B). k ≡ keys_from keys x seals) (sym e) a
+keys_as {S} {B} keys seals k q p e a = subst (λ (x : FullRequest S B). k ≡ keys_from keys x seals) (sym e) a

@@ -7,19 +7,19 @@ use Rattle.host.specs.declared.board.EitherBoard.{EitherBoard}
 use Rattle.host.specs.declared.seals.EitherSeals.{EitherSeals}
 use Rattle.console.specs.Answered.{reply_answer, reply_handed}
 use Rattle.console.specs.Lines.{Advances}
-use Rattle.console.specs.Requested.{call_of, keys_from, world_from}
+use Rattle.console.specs.Requested.{full_call_of, keys_from, world_from}
 use Rattle.console.specs.Seen.{seen}
 use Rattle.console.specs.declared.answers.Reply.{Reply}
-use Rattle.console.specs.declared.request.Request.{Request}
+use Rattle.console.specs.declared.request.FullRequest.{FullRequest}
 use Rattle.pit.specs.Seats.{Plays, seat_keys, seat_world, state_of}
 use Rattle.pit.specs.Told.{answer_told}
 use Rattle.pit.specs.declared.seat.Seat.{Seat}
 
 -- the console and its shelf are as the call left them, whatever became of the turn
 as_left :
-    (before mid after : Seat) (request : Request EitherSeals EitherBoard) (out left : List ℕ) (reply : Reply) (text longer : List ℕ) →
+    (before mid after : Seat) (request : FullRequest EitherSeals EitherBoard) (out left : List ℕ) (reply : Reply) (text longer : List ℕ) →
     Advances either_rule (keys_from keys_of request before.console.seals) (state_of before)
-    (call_of request (length (vec_items before.shelf)) (length out)) (world_from world_of request before.console.board) out
+    (full_call_of request (length (vec_items before.shelf)) (length out)) (world_from world_of request before.console.board) out
     (record {
       answer = reply_answer reply;
       state = state_of mid;
@@ -52,9 +52,9 @@ as_left before mid after request out left reply text longer advances keys consol
 )
 
 pub played :
-    {X Y : Type 0} (r : Result X Y) (before mid after : Seat) (request : Request EitherSeals EitherBoard) (out left : List ℕ) (reply : Reply) (text longer : List ℕ) →
+    {X Y : Type 0} (r : Result X Y) (before mid after : Seat) (request : FullRequest EitherSeals EitherBoard) (out left : List ℕ) (reply : Reply) (text longer : List ℕ) →
     Advances either_rule (keys_from keys_of request before.console.seals) (state_of before)
-    (call_of request (length (vec_items before.shelf)) (length out)) (world_from world_of request before.console.board) out
+    (full_call_of request (length (vec_items before.shelf)) (length out)) (world_from world_of request before.console.board) out
     (record {
       answer = reply_answer reply;
       state = state_of mid;

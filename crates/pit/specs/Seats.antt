@@ -8,12 +8,12 @@ use Rattle.host.specs.declared.board.EitherBoard.{EitherBoard}
 use Rattle.host.specs.declared.seals.EitherSeals.{EitherSeals}
 use Rattle.console.specs.Does.{After}
 use Rattle.console.specs.Lines.{Advances}
-use Rattle.console.specs.Requested.{call_of, keys_from, world_from}
+use Rattle.console.specs.Requested.{full_call_of, keys_from, world_from}
 use Rattle.console.specs.Seen.{seen}
 use Rattle.console.specs.declared.answers.Reply.{Reply}
 use Rattle.console.specs.declared.answers.Reply.TheVariants as reply
 use Rattle.console.specs.declared.answers.Ticked.TheVariants as ticked
-use Rattle.console.specs.declared.request.Request.{Request}
+use Rattle.console.specs.declared.request.FullRequest.{FullRequest}
 use Rattle.console.specs.declared.turn.Turn.{Turn}
 use Rattle.pit.specs.Told.{answer_told}
 use Rattle.pit.specs.declared.seat.Seat.{Seat}
@@ -41,11 +41,11 @@ turn_kept (reply.Heard r) held = held
 
 -- The request was entered at the seat as one line of a sheet, with this output: there is an account of what stands after it, which the sheet's
 -- own advance gives; it is what the seat is left with, and the words tell its answer.
-pub record Entered (before : Seat) (request : Request EitherSeals EitherBoard) (out : List ℕ) (after : Seat) (words : List ℕ) : Type 0 where
+pub record Entered (before : Seat) (request : FullRequest EitherSeals EitherBoard) (out : List ℕ) (after : Seat) (words : List ℕ) : Type 0 where
   pub account : After World
   pub advances :
       Advances either_rule (keys_from keys_of request before.console.seals) (state_of before)
-      (call_of request (length (vec_items before.shelf)) (length out))
+      (full_call_of request (length (vec_items before.shelf)) (length out))
       (world_from world_of request before.console.board) out account
   pub state : state_of after ≡ account.state
   pub board : seat_world after ≡ account.world
@@ -53,6 +53,6 @@ pub record Entered (before : Seat) (request : Request EitherSeals EitherBoard) (
   pub told : words ≡ answer_told account.answer account.handed account.output
 
 -- A text that grew by the words of a request that was entered.
-abbrev pub Plays : Seat → Request EitherSeals EitherBoard → List ℕ → Seat → List ℕ → List ℕ → Type 0
+abbrev pub Plays : Seat → FullRequest EitherSeals EitherBoard → List ℕ → Seat → List ℕ → List ℕ → Type 0
 Plays before request out after text longer =
     (words : List ℕ) × Entered before request out after words × (longer ≡ text ++ words)

@@ -2,7 +2,7 @@
 use boards::tonnage::Tonnage;
 use commands::command::SealKind;
 use console::permit::granting::permit;
-use console::request::Request;
+use console::request::{FullRequest, Request};
 use host::board::EitherBoard;
 use host::table::AssignmentTable;
 use pit::pit::Pit;
@@ -77,7 +77,7 @@ pub fn open(
 
 pub fn tick(pit: &mut Pit, text: &mut String, i: u8, t: u32) -> Result<(), Trouble> {
     write!(text, "tick {i} {t}: ")?;
-    pit.play(text, i, Request::Tick(t), &mut [])?;
+    pit.play(text, i, FullRequest::Plain(Request::Tick(t)), &mut [])?;
     Ok(writeln!(text, "")?)
 }
 
@@ -105,7 +105,7 @@ pub fn pass(pit: &mut Pit, text: &mut String, j: u8) -> Result<(), Trouble> {
 
 pub fn hear(pit: &mut Pit, text: &mut String, i: u8, bytes: &[u8]) -> Result<(), Trouble> {
     write!(text, "hear {i}: ")?;
-    pit.play(text, i, Request::Hear(bytes), &mut [])?;
+    pit.play(text, i, FullRequest::Plain(Request::Hear(bytes)), &mut [])?;
     Ok(writeln!(text, "")?)
 }
 

@@ -5,13 +5,13 @@ ghost use Rattle.sheets.specs.Promise.{Promise};
 ghost use Rattle.console.specs.Answered.{reply_answer, reply_handed};
 ghost use Rattle.console.specs.Does.{Did};
 ghost use Rattle.console.specs.Lines.{Advances};
-ghost use Rattle.console.specs.Requested.{call_of, keys_from, world_from};
+ghost use Rattle.console.specs.Requested.{call_of, full_call_of, keys_from, world_from};
 ghost use Rattle.console.specs.Seen.{seen};
 ghost use Rattle.console.specs.Stands.{stands};
 
 use crate::answers::Reply;
 use crate::console::Console;
-use crate::request::Request;
+use crate::request::{FullRequest, Request};
 use agreement::promise;
 use ledger::progress::Progress;
 use ledger::slot::clear_all;
@@ -34,6 +34,31 @@ impl<S: Seals, T: Store, B: Board> Console<S, T, B> {
         self.candidate = None;
         self.progress = Progress::start();
     }
+
+    // Makes the call that the request says, over the console's own shelf: one line of a shift sheet. Of whole sheets holds what
+    // the promise says: chains of sound consoles never part, boards show their chains, and a timely stretch hands over.
+    pub fn enter(&mut self, shelf: &mut [Option<Block>], request: Request, out: &mut [u8]) -> Reply
+        ensures advances { Advances B.Board.rule (S.Seals.keys self.old.seals) (seen T.Store.kept self.old shelf.old) (call_of request.entry (length shelf.old) (length out.old)) (B.Board.world self.old.board) out.old (stands T.Store.kept B.Board.world self.new shelf.new (reply_answer result) (reply_handed result) out.new) }
+        ensures same { S.Seals.keys self.new.seals ≡ S.Seals.keys self.old.seals }
+        ensures promise { Promise B.Board.World B.Board.rule }
+    {
+        promise::<B>();
+        match request {
+            Request::Open => {
+                self.reopen(shelf);
+                Reply::Opened
+            }
+            Request::Tick(t) => Reply::Ticked(self.tick(shelf, t)),
+            Request::Propose(turn, orders) => Reply::Proposed(self.propose(
+                shelf, turn, orders, out,
+            )),
+            Request::Pass(turn) => {
+                self.pass(turn);
+                Reply::Passed
+            }
+            Request::Hear(bytes) => Reply::Heard(self.hear(shelf, bytes)),
+        }
+    }
 }
 
 impl<S: Seals + Drop, T: Store, B: Board + Drop> Console<S, T, B> {
@@ -47,37 +72,24 @@ impl<S: Seals + Drop, T: Store, B: Board + Drop> Console<S, T, B> {
         self.board = board;
     }
 
-    // Makes the call that the request says, over the console's own shelf: one line of a shift sheet. Of whole sheets holds what
-    // the promise says: chains of sound consoles never part, boards show their chains, and a timely stretch hands over.
-    pub fn enter(
+    // The same of a request that may bring new parts.
+    pub fn enter_with(
         &mut self,
         shelf: &mut [Option<Block>],
-        request: Request<'_, S, B>,
+        request: FullRequest<'_, S, B>,
         out: &mut [u8],
     ) -> Reply
-        ensures advances { Advances B.Board.rule (keys_from S.Seals.keys request.entry self.old.seals) (seen T.Store.kept self.old shelf.old) (call_of request.entry (length shelf.old) (length out.old)) (world_from B.Board.world request.entry self.old.board) out.old (stands T.Store.kept B.Board.world self.new shelf.new (reply_answer result) (reply_handed result) out.new) }
+        ensures advances { Advances B.Board.rule (keys_from S.Seals.keys request.entry self.old.seals) (seen T.Store.kept self.old shelf.old) (full_call_of request.entry (length shelf.old) (length out.old)) (world_from B.Board.world request.entry self.old.board) out.old (stands T.Store.kept B.Board.world self.new shelf.new (reply_answer result) (reply_handed result) out.new) }
         ensures keys { S.Seals.keys self.new.seals ≡ keys_from S.Seals.keys request.entry self.old.seals }
         ensures promise { Promise B.Board.World B.Board.rule }
     {
         promise::<B>();
         match request {
-            Request::Open => {
-                self.reopen(shelf);
-                Reply::Opened
-            }
-            Request::OpenWith(seals, board) => {
+            FullRequest::OpenWith(seals, board) => {
                 self.reopen_with(shelf, seals, board);
                 Reply::Opened
             }
-            Request::Tick(t) => Reply::Ticked(self.tick(shelf, t)),
-            Request::Propose(turn, orders) => Reply::Proposed(self.propose(
-                shelf, turn, orders, out,
-            )),
-            Request::Pass(turn) => {
-                self.pass(turn);
-                Reply::Passed
-            }
-            Request::Hear(bytes) => Reply::Heard(self.hear(shelf, bytes)),
+            FullRequest::Plain(request) => self.enter(shelf, request, out),
         }
     }
 }

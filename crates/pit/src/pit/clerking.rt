@@ -9,7 +9,7 @@ use crate::seat::holding::empty_shelf;
 use crate::trouble::Trouble;
 use console::permit::Permit;
 use console::permit::granting::permit;
-use console::request::Request;
+use console::request::{FullRequest, Request};
 use console::turn::Turn;
 use host::board::EitherBoard;
 use host::seals::EitherSeals;
@@ -29,14 +29,14 @@ fn no_seats(heap: Global, n: u8) -> Result<Vec<Option<Seat>>, AllocError> {
 }
 
 // A request that comes to no console: a turn in it is passed.
-fn spend(request: Request<'_, EitherSeals, EitherBoard>) {
+fn spend(request: FullRequest<'_, EitherSeals, EitherBoard>) {
     match request {
-        Request::Propose(turn, _) => turn.pass(),
-        Request::Pass(turn) => turn.pass(),
-        Request::Open => {}
-        Request::OpenWith(_, _) => {}
-        Request::Tick(_) => {}
-        Request::Hear(_) => {}
+        FullRequest::Plain(Request::Propose(turn, _)) => turn.pass(),
+        FullRequest::Plain(Request::Pass(turn)) => turn.pass(),
+        FullRequest::Plain(Request::Open) => {}
+        FullRequest::Plain(Request::Tick(_)) => {}
+        FullRequest::Plain(Request::Hear(_)) => {}
+        FullRequest::OpenWith(_, _) => {}
     }
 }
 
@@ -93,7 +93,7 @@ impl Pit {
         &mut self,
         text: &mut String,
         i: u8,
-        request: Request<'_, EitherSeals, EitherBoard>,
+        request: FullRequest<'_, EitherSeals, EitherBoard>,
         out: &mut [u8],
     ) -> Result<(), Trouble>
         ensures { OnOk result (LinePlayed self.old i request.entry out.old self.new (string_bytes text.old) (string_bytes text.new)) }
@@ -166,7 +166,7 @@ impl Pit {
         match &mut self.seats[at] {
             Some(seat) => {
                 seat.lend(shelf);
-                Ok(seat.play(text, Request::OpenWith(seals, board), &mut [])?)
+                Ok(seat.play(text, FullRequest::OpenWith(seals, board), &mut [])?)
             }
             slot => {
                 *slot = Some(Seat::open(permit, seals, board, shelf));
@@ -188,7 +188,12 @@ impl Pit {
             return Err(Trouble::NotOpen);
         }
         match self.take_turn(j) {
-            Some(turn) => self.play(text, i, Request::Propose(turn, orders), out),
+            Some(turn) => self.play(
+                text,
+                i,
+                FullRequest::Plain(Request::Propose(turn, orders)),
+                out,
+            ),
             None => Ok(write!(text, "no turn held")?),
         }
     }
@@ -196,7 +201,7 @@ impl Pit {
     // Passes the turn that is held for console j.
     pub fn pass(&mut self, text: &mut String, j: u8) -> Result<(), Trouble> {
         match self.take_turn(j) {
-            Some(turn) => self.play(text, j, Request::Pass(turn), &mut []),
+            Some(turn) => self.play(text, j, FullRequest::Plain(Request::Pass(turn)), &mut []),
             None => Ok(write!(text, "no turn held")?),
         }
     }

@@ -2,14 +2,14 @@ ghost use Rattle.std.specs.Prelude.{◌≡◌, length, Some, string_bytes, OnOk}
 ghost use Rattle.host.specs.Kinds.{World, either_rule, keys_of, world_of};
 ghost use Rattle.console.specs.Answered.{reply_answer, reply_handed};
 ghost use Rattle.console.specs.Lines.{Advances};
-ghost use Rattle.console.specs.Requested.{call_of, keys_from, world_from};
+ghost use Rattle.console.specs.Requested.{full_call_of, keys_from, world_from};
 ghost use Rattle.pit.specs.Seats.{Plays, seat_keys, seat_world, state_of, turn_kept};
 
 use super::Seat;
 use crate::replies::write_reply;
 use console::answers::{Reply, Ticked};
 use console::console::Console;
-use console::request::Request;
+use console::request::FullRequest;
 use console::turn::Turn;
 use host::board::EitherBoard;
 use host::seals::EitherSeals;
@@ -18,11 +18,12 @@ use std::alloc::AllocError;
 
 impl Seat {
     // Enters one line: makes the call over the console's own shelf.
-    fn enter(&mut self, request: Request<'_, EitherSeals, EitherBoard>, out: &mut [u8]) -> Reply
-        ensures advances { Advances either_rule (keys_from keys_of request.entry self.old.console.seals) (state_of self.old) (call_of request.entry (length self.old.shelf.items) (length out.old)) (world_from world_of request.entry self.old.console.board) out.old (record { answer = reply_answer result; state = state_of self.new; handed = reply_handed result; world = seat_world self.new; output = out.new }) }
+    fn enter(&mut self, request: FullRequest<'_, EitherSeals, EitherBoard>, out: &mut [u8]) -> Reply
+        ensures advances { Advances either_rule (keys_from keys_of request.entry self.old.console.seals) (state_of self.old) (full_call_of request.entry (length self.old.shelf.items) (length out.old)) (world_from world_of request.entry self.old.console.board) out.old (record { answer = reply_answer result; state = state_of self.new; handed = reply_handed result; world = seat_world self.new; output = out.new }) }
         ensures keys { seat_keys self.new ≡ keys_from keys_of request.entry self.old.console.seals }
     {
-        self.console.enter(self.shelf.as_mut_slice(), request, out)
+        self.console
+            .enter_with(self.shelf.as_mut_slice(), request, out)
     }
 
     // Holds the turn; an older one is passed.
@@ -58,7 +59,7 @@ impl Seat {
     pub fn play(
         &mut self,
         text: &mut String,
-        request: Request<'_, EitherSeals, EitherBoard>,
+        request: FullRequest<'_, EitherSeals, EitherBoard>,
         out: &mut [u8],
     ) -> Result<(), AllocError>
         ensures { OnOk result (Plays self.old request.entry out.old self.new (string_bytes text.old) (string_bytes text.new)) }
