@@ -68,3 +68,16 @@ pub fn law_of_decimals() -> u8
 {
     0
 }
+
+#[cfg(test)]
+mod tests {
+    use super::*;
+
+    #[test]
+    fn number_is_written(rt: HostRuntime) -> Result<(), AllocError> {
+        let mut text = String::new(rt.alloc());
+        write_number(&mut text, 1005)?;
+        assert!(rt; text.as_str() == "1005");
+        Ok(())
+    }
+}
