@@ -5,15 +5,18 @@ use Rattle.digest.specs.Sha256.{digest}
 use Rattle.digest.specs.Hmac.{hmac}
 use Rattle.text.specs.Hexadecimal.{hex_written}
 use Rattle.text.specs.Splitting.{split}
-use Rattle.commands.specs.declared.command.Command.{Command}
-use Rattle.commands.specs.declared.command.Command.TheVariants.{Name, Mac, Read, Try, Pit, Key, Open, Tick, Propose, Pass, Hear, Shelf, Look, Store, Board}
-use Rattle.commands.specs.Commands.{Says}
+use Rattle.commands.specs.declared.command.Command.{Command as AnyCommand}
+use Rattle.commands.specs.declared.command.Command.TheVariants as any
+use Rattle.commands.specs.Commands.{Says as SaysAny}
+use Rattle.script.specs.declared.command.Command.{Command}
+use Rattle.script.specs.declared.command.Command.TheVariants.{Name, Mac, Read, Try}
+use Rattle.script.specs.declared.fault.Fault.{Fault}
+use Rattle.script.specs.Commands.{Says}
 use Rattle.script.specs.Faults.{Refutes}
 use Rattle.script.specs.Lines.{Blank, Comment}
 use Rattle.script.specs.declared.command.NewBoard.{NewBoard}
 use Rattle.wire.specs.declared.order.Order.{Order}
 use Rattle.shift.specs.declared.stop.Stop.{Stop}
-use Rattle.shift.specs.declared.stop.Stop.TheVariants.{Line, Input, Output}
 use Rattle.shift.specs.declared.stop.Stop.TheVariants as stop
 use Rattle.pit.specs.declared.trouble.Trouble.{Trouble}
 use Rattle.pit.specs.declared.trouble.Trouble.TheVariants.{NoMemory}
@@ -42,46 +45,59 @@ Replied (Name bytes) before after = after ≡ before ++ name_line (vec_items byt
 Replied (Mac key bytes) before after = after ≡ before ++ mac_line key (vec_items bytes)
 Replied (Read n bytes) before after = after ≡ before ++ read_line n (vec_items bytes)
 Replied (Try board orders) before after = after ≡ before ++ try_line board (vec_items orders)
-Replied (Pit n seals) before after = Unit {0}
-Replied (Key console key) before after = Unit {0}
-Replied (Open console slots board) before after = Unit {0}
-Replied (Tick console t) before after = Unit {0}
-Replied (Propose console turn space orders) before after = Unit {0}
-Replied (Pass turn) before after = Unit {0}
-Replied (Hear console bytes) before after = Unit {0}
-Replied (Shelf console slots) before after = Unit {0}
-Replied (Look console) before after = Unit {0}
-Replied (Store console) before after = Unit {0}
-Replied (Board console) before after = Unit {0}
 
--- the command is one that needs a pit, or makes one
-abbrev pub OfPit : Command → Type 0
-OfPit (Name bytes) = ⊥
-OfPit (Mac key bytes) = ⊥
-OfPit (Read n bytes) = ⊥
-OfPit (Try board orders) = ⊥
-OfPit (Pit n seals) = Unit {0}
-OfPit (Key console key) = Unit {0}
-OfPit (Open console slots board) = Unit {0}
-OfPit (Tick console t) = Unit {0}
-OfPit (Propose console turn space orders) = Unit {0}
-OfPit (Pass turn) = Unit {0}
-OfPit (Hear console bytes) = Unit {0}
-OfPit (Shelf console slots) = Unit {0}
-OfPit (Look console) = Unit {0}
-OfPit (Store console) = Unit {0}
-OfPit (Board console) = Unit {0}
-
--- what can keep a command from its answer: want of memory, and the pit at a command of a pit
-abbrev pub Hinders : Trouble → Command → Type 0
-Hinders trouble c = (trouble ≢ NoMemory) → OfPit c
-
--- what playing a line answers: nothing where it is passed over, else the reply to the command that it says, as a line; and where
--- it answers neither, memory failed, or the line says no command, or it says one of a pit
-abbrev pub Answers : List ℕ → Result (Option (String Global)) Stop → Type 0
+-- what playing a line that needs no pit answers: nothing where it is passed over, else the reply to the command that it says, as a line
+abbrev pub Answers : List ℕ → Result (Option (String Global)) Fault → Type 0
 Answers line (Ok None) = Blank line ⊎ Comment line
 Answers line (Ok (Some answer)) = (c : Command) × Says (split line) c × Replied c [] (string_bytes answer)
-Answers line (Err (Line fault)) = Refutes fault ((c : Command) × Says (split line) c)
-Answers line (Err (stop.Pit trouble)) = (c : Command) × Says (split line) c × OfPit c
-Answers line (Err Input) = ⊥
-Answers line (Err Output) = ⊥
+Answers line (Err e) = Refutes e ((c : Command) × Says (split line) c)
+
+-- what any command adds to a text: nothing is said here of the answers of a pit
+abbrev pub RepliedToAny : AnyCommand → List ℕ → List ℕ → Type 0
+RepliedToAny (any.Name bytes) before after = Replied (Name bytes) before after
+RepliedToAny (any.Mac key bytes) before after = Replied (Mac key bytes) before after
+RepliedToAny (any.Read n bytes) before after = Replied (Read n bytes) before after
+RepliedToAny (any.Try board orders) before after = Replied (Try board orders) before after
+RepliedToAny (any.Pit n seals) before after = Unit {0}
+RepliedToAny (any.Key console key) before after = Unit {0}
+RepliedToAny (any.Open console slots board) before after = Unit {0}
+RepliedToAny (any.Tick console t) before after = Unit {0}
+RepliedToAny (any.Propose console turn space orders) before after = Unit {0}
+RepliedToAny (any.Pass turn) before after = Unit {0}
+RepliedToAny (any.Hear console bytes) before after = Unit {0}
+RepliedToAny (any.Shelf console slots) before after = Unit {0}
+RepliedToAny (any.Look console) before after = Unit {0}
+RepliedToAny (any.Store console) before after = Unit {0}
+RepliedToAny (any.Board console) before after = Unit {0}
+
+-- the command is one that needs a pit, or makes one
+abbrev pub OfPit : AnyCommand → Type 0
+OfPit (any.Name bytes) = ⊥
+OfPit (any.Mac key bytes) = ⊥
+OfPit (any.Read n bytes) = ⊥
+OfPit (any.Try board orders) = ⊥
+OfPit (any.Pit n seals) = Unit {0}
+OfPit (any.Key console key) = Unit {0}
+OfPit (any.Open console slots board) = Unit {0}
+OfPit (any.Tick console t) = Unit {0}
+OfPit (any.Propose console turn space orders) = Unit {0}
+OfPit (any.Pass turn) = Unit {0}
+OfPit (any.Hear console bytes) = Unit {0}
+OfPit (any.Shelf console slots) = Unit {0}
+OfPit (any.Look console) = Unit {0}
+OfPit (any.Store console) = Unit {0}
+OfPit (any.Board console) = Unit {0}
+
+-- what can keep a command from its answer: want of memory, and the pit at a command of a pit
+abbrev pub Hinders : Trouble → AnyCommand → Type 0
+Hinders trouble c = (trouble ≢ NoMemory) → OfPit c
+
+-- what playing any line answers: nothing where it is passed over, else the reply to the command that it says, as a line; and where
+-- it answers neither, memory failed, or the line says no command, or it says one of a pit
+abbrev pub AnswersAny : List ℕ → Result (Option (String Global)) Stop → Type 0
+AnswersAny line (Ok None) = Blank line ⊎ Comment line
+AnswersAny line (Ok (Some answer)) = (c : AnyCommand) × SaysAny (split line) c × RepliedToAny c [] (string_bytes answer)
+AnswersAny line (Err (stop.Line fault)) = Refutes fault ((c : AnyCommand) × SaysAny (split line) c)
+AnswersAny line (Err (stop.Pit trouble)) = (c : AnyCommand) × SaysAny (split line) c × OfPit c
+AnswersAny line (Err stop.Input) = ⊥
+AnswersAny line (Err stop.Output) = ⊥

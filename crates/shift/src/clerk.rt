@@ -1,15 +1,17 @@
 // The clerk of a pit: it keeps what the lines before have left, and answers one line at a time.
 ghost use Rattle.std.specs.Prelude.{string_bytes, OnOk, IfErr};
-ghost use Rattle.shift.specs.Replies.{Replied, Answers, Hinders};
+ghost use Rattle.shift.specs.Replies.{Answers, AnswersAny, Hinders, Replied, RepliedToAny};
 
 use crate::stop::Stop;
 use crate::{consoles, records};
-use commands::command::Command;
-use commands::lines::read_line;
+use commands::command::Command as AnyCommand;
+use commands::lines::read_line as read_any_line;
 use pit::pit::Pit;
 use pit::trouble::Trouble;
+use script::command::Command;
 use script::fault::Fault;
-use std::alloc::Global;
+use script::lines::read_line;
+use std::alloc::{AllocError, Global};
 
 #[derive(Drop)]
 pub struct Clerk {
@@ -22,19 +24,61 @@ impl Clerk {
         Clerk { pit: None }
     }
 
-    // Adds the answer to a command, a line, to the text.
-    fn answer(&mut self, heap: Global, command: Command, text: &mut String) -> Result<(), Trouble>
-        ensures reply { OnOk result (Replied command (string_bytes text.old) (string_bytes text.new)) }
+    // Adds the answer to a command that needs no pit, a line, to the text.
+    fn answer(
+        &mut self,
+        heap: Global,
+        command: Command,
+        text: &mut String,
+    ) -> Result<(), AllocError>
+        ensures { OnOk result (Replied command (string_bytes text.old) (string_bytes text.new)) }
+    {
+        match command {
+            Command::Name { bytes } => records::write_name(text, bytes.as_slice()),
+            Command::Mac { key, bytes } => records::write_mac(text, &key, bytes.as_slice()),
+            Command::Read { n, bytes } => records::write_read(text, n, bytes.as_slice()),
+            Command::Try { board, orders } => {
+                records::write_try(text, heap, board, orders.as_slice())
+            }
+        }
+    }
+
+    // The answer to a line that needs no pit, without its newline, or nothing where the line asks for nothing.
+    pub fn play<'a>(&mut self, heap: Global, line: &'a [u8]) -> Result<Option<String>, Fault<'a>>
+        ensures { Answers line.now result }
+    {
+        let Some(command) = read_line(heap, line)? else {
+            return Ok(None);
+        };
+        let mut text = String::new(heap);
+        match self.answer(heap, command, &mut text) {
+            Ok(()) => Ok(Some(text)),
+            Err(_) => Err(Fault::NoMemory),
+        }
+    }
+
+    // Adds the answer to any command, a line, to the text.
+    fn answer_any(
+        &mut self,
+        heap: Global,
+        command: AnyCommand,
+        text: &mut String,
+    ) -> Result<(), Trouble>
+        ensures reply { OnOk result (RepliedToAny command (string_bytes text.old) (string_bytes text.new)) }
         ensures trouble { IfErr result (λ e. Hinders e command) }
     {
         match command {
-            Command::Name { bytes } => Ok(records::write_name(text, bytes.as_slice())?),
-            Command::Mac { key, bytes } => Ok(records::write_mac(text, &key, bytes.as_slice())?),
-            Command::Read { n, bytes } => Ok(records::write_read(text, n, bytes.as_slice())?),
-            Command::Try { board, orders } => {
-                Ok(records::write_try(text, heap, board, orders.as_slice())?)
+            AnyCommand::Name { bytes } => Ok(self.answer(heap, Command::Name { bytes }, text)?),
+            AnyCommand::Mac { key, bytes } => {
+                Ok(self.answer(heap, Command::Mac { key, bytes }, text)?)
             }
-            Command::Pit { n, seals } => {
+            AnyCommand::Read { n, bytes } => {
+                Ok(self.answer(heap, Command::Read { n, bytes }, text)?)
+            }
+            AnyCommand::Try { board, orders } => {
+                Ok(self.answer(heap, Command::Try { board, orders }, text)?)
+            }
+            AnyCommand::Pit { n, seals } => {
                 self.pit = None;
                 self.pit = consoles::pit(text, heap, n, seals)?;
                 Ok(())
@@ -47,47 +91,49 @@ impl Clerk {
     fn answer_in_pit(
         &mut self,
         heap: Global,
-        command: Command,
+        command: AnyCommand,
         text: &mut String,
     ) -> Result<(), Trouble> {
         let Some(pit) = &mut self.pit else {
             return Err(Trouble::NoPit);
         };
         match command {
-            Command::Key { console, key } => consoles::key(pit, text, console, key),
-            Command::Open {
+            AnyCommand::Key { console, key } => consoles::key(pit, text, console, key),
+            AnyCommand::Open {
                 console,
                 slots,
                 board,
             } => consoles::open(pit, text, heap, console, slots, board),
-            Command::Tick { console, t } => consoles::tick(pit, text, console, t),
-            Command::Propose {
+            AnyCommand::Tick { console, t } => consoles::tick(pit, text, console, t),
+            AnyCommand::Propose {
                 console,
                 turn,
                 space,
                 orders,
             } => consoles::propose(pit, text, heap, (console, turn), space, orders.as_slice()),
-            Command::Pass { turn } => consoles::pass(pit, text, turn),
-            Command::Hear { console, bytes } => {
+            AnyCommand::Pass { turn } => consoles::pass(pit, text, turn),
+            AnyCommand::Hear { console, bytes } => {
                 consoles::hear(pit, text, console, bytes.as_slice())
             }
-            Command::Shelf { console, slots } => consoles::shelf(pit, text, heap, console, slots),
-            Command::Look { console } => consoles::look(pit, text, console),
-            Command::Store { console } => consoles::store(pit, text, console),
-            Command::Board { console } => consoles::board(pit, text, console),
+            AnyCommand::Shelf { console, slots } => consoles::shelf(
+                pit, text, heap, console, slots,
+            ),
+            AnyCommand::Look { console } => consoles::look(pit, text, console),
+            AnyCommand::Store { console } => consoles::store(pit, text, console),
+            AnyCommand::Board { console } => consoles::board(pit, text, console),
             _ => Ok(()),
         }
     }
 
-    // The answer to a line without its newline, or nothing where the line asks for nothing.
-    pub fn play<'a>(&mut self, heap: Global, line: &'a [u8]) -> Result<Option<String>, Stop<'a>>
-        ensures { Answers line.now result }
+    // The answer to any line without its newline, or nothing where the line asks for nothing.
+    pub fn play_any<'a>(&mut self, heap: Global, line: &'a [u8]) -> Result<Option<String>, Stop<'a>>
+        ensures { AnswersAny line.now result }
     {
-        let Some(command) = read_line(heap, line)? else {
+        let Some(command) = read_any_line(heap, line)? else {
             return Ok(None);
         };
         let mut text = String::new(heap);
-        match self.answer(heap, command, &mut text) {
+        match self.answer_any(heap, command, &mut text) {
             Ok(()) => Ok(Some(text)),
             Err(Trouble::NoMemory) => Err(Stop::Line(Fault::NoMemory)),
             Err(trouble) => Err(Stop::Pit(trouble)),
