@@ -40,7 +40,7 @@ shown places n = cond (place_stands n) (Some (place_at places n)) None
 abbrev pub read_out : ℕ → ℕ
 read_out tenths = (tenths + 5) / 10
 
--- the read_out of a place
+-- the read-out of a place
 abbrev pub tonnes_at : List Place → ℕ → Option ℕ
 tonnes_at places n = cond (place_stands n) (Some (read_out (place_at places n).tenths)) None
 

@@ -75,7 +75,7 @@ sent w truck place =
 unfoldable pub released : Roster → ℕ → Option Change
 released w truck = writing None (line_of truck w.lines)
 
--- what a well_formed order changes, if anything
+-- what a well-formed order changes, if anything
 abbrev pub called : Roster → Order → Option Change
 called w (Send truck place) = sent w truck place
 called w (Release truck) = released w truck

@@ -46,7 +46,7 @@ module _ (pit : Pit) (h : History blocks) where
   abbrev pub SoundShelf : List Slot → Type 0
   SoundShelf xs = (b : Block) → On b xs → SoundBlock b
 
-  -- a ledger whose handed_over bodies are these
+  -- a ledger whose handed-over bodies are these
   pub record SoundLedger (bodies : List Body) (g : Ledger) : Type 0 where
     pub shelf : SoundShelf g.shelf
     pub top : Backed blocks (consoles pit) h g.top.block

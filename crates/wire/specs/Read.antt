@@ -138,7 +138,7 @@ vote_stands n v = nat_le 1 v.block.view && nat_lt v.voter n
 abbrev pub inner_marks : List ℕ → Bool
 inner_marks bytes = marked (codes "BD") (body_part bytes) && marked (codes "CT") (certificate_part bytes)
 
--- the message, if the bytes fit and are well_formed
+-- the message, if the bytes fit and are well-formed
 abbrev pub judged : Bool → Bool → Message → Result Message Unreadable
 judged fits formed m = cond fits (cond formed (Ok m) (Err Form)) (Err Length)
 

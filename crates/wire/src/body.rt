@@ -104,7 +104,7 @@ impl Body {
         }
     }
 
-    // Whether the orders are well_formed and the view is above the parent's.
+    // Whether the orders are well-formed and the view is above the parent's.
     pub(crate) fn stands(&self) -> bool
         ensures { result ≡ body_stands self.now }
     {

@@ -59,7 +59,7 @@ impl Proposal {
 }
 
 impl Proposal {
-    // Whether body and certificate are well_formed and the certificate is the parent's.
+    // Whether body and certificate are well-formed and the certificate is the parent's.
     pub(crate) fn stands(&self, n: u8) -> bool
         ensures { result ≡ proposal_stands n self.now }
     {

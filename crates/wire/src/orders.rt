@@ -56,7 +56,7 @@ impl Orders {
     }
 }
 
-// Whether each of the orders is well_formed.
+// Whether each of the orders is well-formed.
 pub fn well_formed(orders: &[Order]) -> bool
     ensures { result ≡ all_well_formed orders.now }
 {

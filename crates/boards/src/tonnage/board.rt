@@ -57,7 +57,7 @@ impl Tonnage {
     }
 }
 
-// The read_out in whole tonnes.
+// The read-out in whole tonnes.
 fn whole_tonnes(tenths: u64) -> u64
     requires { tenths ≤ most }
     ensures { result ≡ read_out tenths }
@@ -113,7 +113,7 @@ pub fn tonnage_keeps() -> u8
     0
 }
 
-// The worked examples of the read_out.
+// The worked examples of the read-out.
 pub fn read_outs_stand() -> u8
     ensures { ReadOuts }
 {
