@@ -1,3 +1,4 @@
 pub mod Growing
+pub mod Telling
 pub mod Taking
 pub mod Reporting

@@ -1,50 +1,20 @@
 -- Orders that a board takes, and the text of their effects.
-use Rattle.std.proofs.Common.{◌≡◌, ℕ, ◌+◌, ◌-◌, ◌<◌, ◌≤◌, Bool, true, false, List, [], ◌∷◌, ◌++◌, map, length, get_or, take, drop, IfOk, codes, Result, sym, refl, ap, ◌∙◌, subst, append_assoc, append-nil, arith, le-leb}
+use Rattle.std.proofs.Common.{◌≡◌, ℕ, ◌-◌, ◌<◌, ◌≤◌, Bool, true, false, List, [], ◌∷◌, ◌++◌, map, length, get_or, take, drop, IfOk, codes, Result, refl, append_assoc, arith, le-leb}
 use borrow.Author.Tests.{lt-leb}
-use Rattle.std.proofs.lemmas.List.{at_drop_all, at_drop_more, take_rest}
+use Rattle.std.proofs.lemmas.List.{take_rest}
 use Rattle.std.proofs.lemmas.Result.{IfOk-weaker}
 use Rattle.wire.specs.Read.{all_well_formed}
 use Rattle.wire.specs.declared.order.Order.{Order}
 use Rattle.script.specs.declared.command.NewBoard.{NewBoard}
 use Rattle.telling.specs.Lists.{led}
 use Rattle.telling.specs.Messages.{order_told, orders_told}
-use Rattle.telling.specs.Tries.{effect_told, effects, effects_told, taken_told, trial_told}
+use Rattle.telling.specs.Tries.{effects_told, taken_told, told_effects, trial_told}
 
 module _ {W : Type 0} (rule : W → Order → W) (effect : W → Order → Bool) where
-  -- the effects, each after a space
-  abbrev pub each : W → List Order → List ℕ
-  each w os = led (codes " ") (map effect_told (effects rule effect w os))
-
-  each_one : (w : W) (o : Order) (os : List Order) → each w (o ∷ os) ≡ (codes " " ++ effect_told (effect w o)) ++ each (rule w o) os
-  unfolding effects
-  each_one w o os = refl
-
-  each_none : (w : W) → each w [] ≡ []
-  unfolding effects
-  each_none w = refl
-
-  -- the rest of the orders, one fewer
-  pub effect_more : (w v : W) (was now all : List ℕ) (os : List Order) (i : ℕ) (o : Order) (e : Bool) → i < length os → e ≡ effect w (get_or os i o) → v ≡ rule w (get_or os i o) → now ≡ was ++ (codes " " ++ effect_told e) → was ++ each w (drop i os) ≡ all → now ++ each v (drop (i + 1) os) ≡ all
-  effect_more w v was now all os i o e below told moved added before =
-      let d = at_drop_more (each w) os i o below in
-      let one = each_one w (get_or os i o) (drop (i + 1) os) in
-      let said = subst (λ (b : Bool). now ≡ was ++ (codes " " ++ effect_told b)) told added in
-      let a = append_assoc was (codes " " ++ effect_told (effect w (get_or os i o))) (each (rule w (get_or os i o)) (drop (i + 1) os)) in
-      rw (said, moved) (a ∙ sym (ap (λ (l : List ℕ). was ++ l) (d ∙ one)) ∙ before)
-
-  pub effects_all : (w : W) (now all : List ℕ) (os : List Order) (i : ℕ) → length os ≤ i → now ++ each w (drop i os) ≡ all → now ≡ all
-  effects_all w now all os i past before =
-      let d = at_drop_all (each w) os i past in
-      let e = each_none w in
-      let a = append-nil now in
-      cc
-
-  pub effects_none : (w : W) → effects_told rule effect w [] ≡ codes " -"
-  unfolding effects
+  pub effects_none : (w : W) → told_effects rule effect w [] ≡ codes " -"
   effects_none w = refl
 
-  pub effects_some : (w : W) (os : List Order) → (length os ≡ 0 → ⊥) → effects_told rule effect w os ≡ each w os
-  unfolding effects
+  pub effects_some : (w : W) (os : List Order) → (length os ≡ 0 → ⊥) → told_effects rule effect w os ≡ effects_told rule effect w os
   effects_some w [] some = absurd (some refl)
   effects_some w (o ∷ os) some = refl
 

@@ -1,7 +1,7 @@
 // A board in words.
-ghost use Rattle.std.specs.Prelude.{◌≡◌, ◌≤◌, [], ◌++◌, map, if◌then◌else◌, string_bytes, codes, OnOk};
-ghost use Rattle.telling.specs.Lists.{led};
-ghost use Rattle.telling.specs.Shown.{assignment_told, has_loads, line_told, loaded_told, place_told, tonnage_told};
+ghost use Rattle.std.specs.Prelude.{◌≡◌, ◌++◌, string_bytes, OnOk};
+ghost use Rattle.std.specs.List.{flat_map};
+ghost use Rattle.telling.specs.Shown.{assignment_told, line_told, place_told, places_up_to, tonnage_told};
 
 use boards::assignment::line::Line;
 use boards::tonnage::Tonnage;
@@ -9,7 +9,7 @@ use std::alloc::AllocError;
 
 // Adds a line of the table, after a space.
 fn write_line(text: &mut String, line: &Option<Line>) -> Result<(), AllocError>
-    ensures { OnOk result (string_bytes text.new ≡ string_bytes text.old ++ (codes " " ++ line_told line.now)) }
+    ensures { OnOk result (string_bytes text.new ≡ string_bytes text.old ++ line_told line.now) }
 {
     match *line {
         Some(line) => write!(text, " {}@{}", line.truck, line.place),
@@ -18,7 +18,7 @@ fn write_line(text: &mut String, line: &Option<Line>) -> Result<(), AllocError>
 }
 
 fn write_lines(text: &mut String, lines: &[Option<Line>]) -> Result<(), AllocError>
-    ensures { OnOk result (string_bytes text.new ≡ string_bytes text.old ++ led (codes " ") (map line_told lines.now)) }
+    ensures { OnOk result (string_bytes text.new ≡ string_bytes text.old ++ flat_map line_told lines.now) }
 {
     for line in lines {
         write_line(text, line)?;
@@ -34,10 +34,9 @@ pub fn write_assignment(text: &mut String, lines: &[Option<Line>]) -> Result<(),
     write_lines(text, lines)
 }
 
-// Adds one of the 64 places after a space, or nothing if no load came to it.
+// Adds a place after a space, or nothing if no load came to it or there is no such place.
 fn write_place(text: &mut String, board: &Tonnage, number: u16) -> Result<(), AllocError>
-    requires { (1 ≤ number) × (number ≤ 64) }
-    ensures { OnOk result (string_bytes text.new ≡ string_bytes text.old ++ (if has_loads board.now.places number then codes " " ++ place_told board.now.places number else [])) }
+    ensures { OnOk result (string_bytes text.new ≡ string_bytes text.old ++ place_told board.now.places number) }
 {
     let Some(place) = board.place(number) else {
         return Ok(());
@@ -52,7 +51,7 @@ fn write_place(text: &mut String, board: &Tonnage, number: u16) -> Result<(), Al
 }
 
 fn write_places(text: &mut String, board: &Tonnage) -> Result<(), AllocError>
-    ensures { OnOk result (string_bytes text.new ≡ string_bytes text.old ++ loaded_told board.now.places) }
+    ensures { OnOk result (string_bytes text.new ≡ string_bytes text.old ++ places_up_to 64 board.now.places) }
 {
     for i in 0..64u16 {
         write_place(text, board, i + 1)?;

@@ -1,9 +1,8 @@
 // What a new board makes of orders.
-ghost use Rattle.std.specs.Prelude.{◌≡◌, ◌++◌, map, replicate, IfOk, None, string_bytes, codes, OnOk};
+ghost use Rattle.std.specs.Prelude.{◌≡◌, ◌++◌, replicate, IfOk, None, string_bytes, OnOk};
 ghost use Rattle.parts.specs.Fed.{fed};
 ghost use Rattle.script.specs.declared.command.NewBoard.TheVariants as fresh;
-ghost use Rattle.telling.specs.Lists.{led};
-ghost use Rattle.telling.specs.Tries.{effect_told, effects, effects_told, taken_told, trial_told};
+ghost use Rattle.telling.specs.Tries.{effect_told, effects_told, taken_told, told_effects, trial_told};
 
 use crate::board_words::{write_assignment, write_tonnage};
 use boards::assignment::board::Assignment;
@@ -17,7 +16,7 @@ use wire::orders::well_formed;
 
 // Adds the effect of an order, after a space.
 fn write_effect(text: &mut String, effect: bool) -> Result<(), AllocError>
-    ensures { OnOk result (string_bytes text.new ≡ string_bytes text.old ++ (codes " " ++ effect_told effect)) }
+    ensures { OnOk result (string_bytes text.new ≡ string_bytes text.old ++ effect_told effect) }
 {
     if effect {
         write!(text, " yes")
@@ -28,7 +27,7 @@ fn write_effect(text: &mut String, effect: bool) -> Result<(), AllocError>
 
 // The board takes the orders; whether each had an effect is added to the text.
 fn take_each<B: Board>(text: &mut String, board: &mut B, orders: &[Order]) -> Result<(), AllocError>
-    ensures effects { OnOk result (string_bytes text.new ≡ string_bytes text.old ++ led (codes " ") (map effect_told (effects B.Board.rule B.Board.effect (B.Board.world board.old) orders.now))) }
+    ensures effects { OnOk result (string_bytes text.new ≡ string_bytes text.old ++ effects_told B.Board.rule B.Board.effect (B.Board.world board.old) orders.now) }
     ensures board { OnOk result (B.Board.world board.new ≡ fed B.Board.rule (B.Board.world board.old) orders.now) }
 {
     for order in orders {
@@ -44,7 +43,7 @@ fn write_effects<B: Board>(
     board: &mut B,
     orders: &[Order],
 ) -> Result<(), AllocError>
-    ensures effects { OnOk result (string_bytes text.new ≡ string_bytes text.old ++ effects_told B.Board.rule B.Board.effect (B.Board.world board.old) orders.now) }
+    ensures effects { OnOk result (string_bytes text.new ≡ string_bytes text.old ++ told_effects B.Board.rule B.Board.effect (B.Board.world board.old) orders.now) }
     ensures board { OnOk result (B.Board.world board.new ≡ fed B.Board.rule (B.Board.world board.old) orders.now) }
 {
     if orders.is_empty() {

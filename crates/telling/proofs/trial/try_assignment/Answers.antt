@@ -3,7 +3,7 @@ use lib.ListN.{length-replicate}
 use Rattle.parts.specs.Fed.{fed}
 use Rattle.boards.specs.Trucks.{assigned, effective}
 use Rattle.telling.specs.Shown.{assignment_told}
-use Rattle.telling.specs.Tries.{effects_told, no_trucks}
+use Rattle.telling.specs.Tries.{no_trucks, told_effects}
 use Rattle.telling.proofs.Taking.{board_after}
 use Rattle.telling.proofs.trial.try_assignment.Goals as goal
 
@@ -13,7 +13,7 @@ returns c =
     let many : length c.as_mut_slice.result.now ≡ c.args.lines = ap length (c.as_mut_slice.ensures.value ∙ c.in_ok-table.ensures) ∙ length-replicate c.args.lines None in
     let lines = c.new-board.ensures.lines ∙ ap (λ (n : ℕ). replicate n None) many in
     let limit = c.new-board.ensures.limit in
-    board_after c.write_assignment.result (λ w. effects_told assigned effective w c.args.orders.now) (λ w. fed assigned w c.args.orders.now) (λ w. assignment_told w.lines)
+    board_after c.write_assignment.result (λ w. told_effects assigned effective w c.args.orders.now) (λ w. fed assigned w c.args.orders.now) (λ w. assignment_told w.lines)
     (no_trucks c.args.lines c.args.limit) _ _ (string_bytes c.args.text.now) _ _ _
     (λ i. record { limit = limit i; lines = lines i }) taken.effects taken.board c.in_ok-write.ensures.bytes
     (rw c.lines.ensures at c.write_assignment.ensures)
