@@ -54,10 +54,3 @@ sweep_all v xs ys i l inv =
     let m = swept-map v xs in
     let n = append-nil (map (kept_above v) xs) in
     cc
-
--- no set of sixteen consoles has a signer above 15
-pub none_above : (q i : ℕ) → q < 65536 → 16 ≤ i → signed q i ≡ false
-none_above q i h l =
-    let p : 65536 ≤ 2 ^ i = pow_mono {i = 16} {j = i} l in
-    let d : q / 2 ^ i ≡ 0 = div-eq_of_lt (omega arith) in
-    ap (λ (k : ℕ). eqb (k % 2) 1) d

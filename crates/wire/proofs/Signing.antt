@@ -1,5 +1,5 @@
 -- Signers by their bits.
-use Rattle.std.proofs.Common.{◌≡◌, ℕ, zero, suc, ◌+◌, ◌-◌, ◌*◌, ◌/◌, ◌%◌, ◌^◌, ◌<◌, ◌≤◌, true, false, eqb, ltb, List, [], ◌∷◌, ◌++◌, map, length, get_or, set as set_at_place, replicate, sym, refl, ap, ◌∙◌, subst, le_refl, add-zero, add-suc, mod-lt, mod-eq_of_lt, add-sub_of_le, mul-zero, add-one, one-add, arith, lit<, pow_pos, eqb-true}
+use Rattle.std.proofs.Common.{◌≡◌, ℕ, zero, suc, ◌+◌, ◌-◌, ◌*◌, ◌/◌, ◌%◌, ◌^◌, ◌<◌, ◌≤◌, true, false, eqb, ltb, List, [], ◌∷◌, ◌++◌, map, length, get_or, set as set_at_place, replicate, sym, refl, ap, ◌∙◌, subst, le_refl, add-zero, add-suc, mod-lt, mod-eq_of_lt, add-sub_of_le, mul-zero, add-one, one-add, arith, lit<, pow_pos, pow_mono, eqb-true}
 use native.Mathlib.Nat.{div-eq_of_lt, mod-add-div, mod-one}
 use borrow.Author.Tests.{eqb-false}
 use lib.Count.{ones, ones_in, ones_cat}
@@ -121,3 +121,10 @@ below_none set n =
     let small : set < 2 ^ n → set / 2 ^ n ≡ 0 = λ h. div-eq_of_lt h in
     let large : set / 2 ^ n ≡ 0 → set < 2 ^ n = λ e. let z : 2 ^ n * (set / 2 ^ n) ≡ 0 = rw (e, mul-zero) in omega arith in
     grind (arith, nat_tests)
+
+-- no set of sixteen consoles has a signer above 15
+pub none_above : (q i : ℕ) → q < 65536 → 16 ≤ i → signed q i ≡ false
+none_above q i h l =
+    let p : 65536 ≤ 2 ^ i = pow_mono {i = 16} {j = i} l in
+    let d : q / 2 ^ i ≡ 0 = div-eq_of_lt (omega arith) in
+    ap (λ (k : ℕ). eqb (k % 2) 1) d

@@ -80,6 +80,14 @@ fn seals_in(set: u16, bytes: &[u8]) -> [[u8; 16]; 16]
 }
 
 impl Signers {
+    // Whether the console has signed; none has a number above 15.
+    pub fn has(&self, console: u8) -> bool
+        ensures { result ≡ signed self.now.set console }
+    {
+        let set = self.set;
+        console < 16 && (set >> console) % 2 == 1
+    }
+
     // No console.
     pub fn none() -> Signers
         ensures { result ≡ no_signers }
@@ -151,7 +159,7 @@ impl Certificate {
         ensures { result ≡ certificate_stands n self.now }
     {
         below(self.signers.set, n)
-            && (self.block.view != 0 || (self.block.same(&Key::origin()) && self.signers.set == 0))
+            && (self.block.view != 0 || (self.block == Key::origin() && self.signers.set == 0))
     }
 }
 

@@ -5,7 +5,7 @@ ghost use Rattle.wire.specs.Written.{Wrote};
 use crate::put::{put, put_u32};
 
 // A block is known by its view and its name, the digest of its body's bytes.
-#[derive(Clone, Copy)]
+#[derive(Clone, Copy, PartialEq, Eq)]
 pub struct Key {
     pub view: u32,
     pub name: [u8; 32],
@@ -20,14 +20,6 @@ impl Key {
             view: 0,
             name: [0; 32],
         }
-    }
-
-    // Whether the two keys are equal.
-    pub fn same(&self, other: &Key) -> bool
-        ensures decides { Decides result (self.now ≡ other.now) }
-        ensures value { result ≡ same_key self.now other.now }
-    {
-        self.view == other.view && self.name == other.name
     }
 
     // How many bytes view and name take.

@@ -65,7 +65,7 @@ impl Proposal {
     {
         self.body.stands()
             && self.certificate.stands(n)
-            && self.certificate.block.same(&self.body.parent)
+            && self.certificate.block == self.body.parent
     }
 }
 
