@@ -4,13 +4,11 @@
 ghost use Rattle.examples.specs.Worked.{HandingOver, Leaders, Locks, Numbers, Quorums, Records};
 
 // Every number here is one that docs/RULES.md or docs/FORMATS.md names.
-pub fn worked_examples() -> u8
+pub fn worked_examples()
     ensures quorums { Quorums }
     ensures leaders { Leaders }
     ensures locks { Locks }
     ensures records { Records }
     ensures numbers { Numbers }
     ensures handing_over { HandingOver }
-{
-    0
-}
+{}

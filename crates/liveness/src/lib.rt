@@ -4,8 +4,6 @@
 ghost use Rattle.liveness.specs.Liveness.{StretchesHandOver};
 
 // While the radio and two sound leaders in a row are in time, every sound console hands over the first leader's block.
-pub fn timely_stretches_hand_over() -> u8
+pub fn timely_stretches_hand_over()
     ensures { StretchesHandOver }
-{
-    0
-}
+{}

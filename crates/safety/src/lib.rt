@@ -6,16 +6,12 @@ ghost use Rattle.safety.specs.Agreement.{BoardsShow, ChainsAgree, ChainsCounted}
 use parts::board::Board;
 
 // Of the chains of two sound consoles of one sheet, after any of its lines, one begins with the other.
-pub fn chains_of_a_sheet_agree() -> u8
+pub fn chains_of_a_sheet_agree()
     ensures agree { ChainsAgree }
     ensures counted { ChainsCounted }
-{
-    0
-}
+{}
 
 // A board of any kind is where its chain's orders bring it, each taken once and in sequence.
-pub fn boards_show_their_chains<B: Board>() -> u8
+pub fn boards_show_their_chains<B: Board>()
     ensures { BoardsShow B.Board.World B.Board.rule }
-{
-    0
-}
+{}

@@ -12,23 +12,19 @@ pub trait Kind {
 }
 
 // Two quorums share a sound console, and the sound consoles are a quorum: by weight, and by count as weights of 1.
-pub fn quorums_share_a_sound_console() -> u8
+pub fn quorums_share_a_sound_console()
     ensures share { QuorumsShare }
     ensures suffice { SoundSuffice }
     ensures counting { Counting }
     ensures counted { Counted }
-{
-    0
-}
+{}
 
 // Of two settled chains of one lawful history one begins with the other, and what is settled stays so.
-pub fn chains_never_part<K: Kind>() -> u8
+pub fn chains_never_part<K: Kind>()
     ensures agreement { Agreement K.Kind.blocks }
     ensures ancestry { Ancestry K.Kind.blocks }
     ensures lasting { Lasting K.Kind.blocks }
-{
-    0
-}
+{}
 
 // Three blocks, voted on by four consoles of which one is not sound.
 pub struct Sample;
@@ -38,7 +34,7 @@ impl Kind for Sample {
 }
 
 // A history that meets every premise and has a final block, and what then holds of its blocks.
-pub fn an_instance() -> u8
+pub fn an_instance()
     ensures met { Met }
     ensures agreement { Agreement sample }
 {
