@@ -1,6 +1,7 @@
 -- A search from the lowest slot up: its loop, and what it finds.
-use Rattle.std.proofs.Common.{◌≡◌, ℕ, zero, suc, ◌+◌, ◌<◌, ◌≤◌, Bool, true, false, List, [], ◌∷◌, length, get_or, drop, Some, None, Option, sym, refl, ap, ◌∙◌, subst, ⊎_elim, add-zero, add_assoc, zero-add, one-add, arith}
+use Rattle.std.proofs.Common.{◌≡◌, ℕ, zero, suc, ◌+◌, ◌<◌, ◌≤◌, Bool, true, false, List, [], ◌∷◌, length, get_or, drop, position, Some, None, Option, sym, refl, ap, ◌∙◌, subst, ⊎_elim, add-zero, add_assoc, zero-add, one-add, arith}
 use Rattle.std.proofs.lemmas.List.{at_drop_more, at_drop_all}
+use Rattle.std.proofs.lemmas.Bool.Decides.{nat_tests}
 use Rattle.std.proofs.lemmas.Bool.{cases_Bool, cond-true, cond-false}
 use Rattle.shelf.specs.Slots.{lowest, beyond}
 
@@ -25,6 +26,16 @@ beyond_zero (Some i) = ap (λ (n : ℕ). Some n) (sym (zero-add i))
 beyond_one : (n : ℕ) (o : Option ℕ) → beyond n (beyond 1 o) ≡ beyond (n + 1) o
 beyond_one n None = refl
 beyond_one n (Some i) = ap (λ (m : ℕ). Some m) (sym (add_assoc n 1 i))
+
+-- `lowest` is std's `position`
+pub lowest_position : {A : Type 0} (test : A → Bool) (xs : List A) → position test xs ≡ lowest test xs
+lowest_position test [] = sym (lowest_none test)
+lowest_position test (x ∷ xs) =
+    let ih = lowest_position test xs in
+    ⊎_elim
+    (λ e. let h = lowest_hit test x xs e in grind (arith, nat_tests))
+    (λ e. let m = lowest_miss test x xs e in grind (arith, nat_tests))
+    (cases_Bool (test x))
 
 -- the slots below `i` fail the test
 abbrev pub Passed : {A : Type 0} → (A → Bool) → List A → ℕ → Type 0

@@ -1,10 +1,10 @@
-ghost use Rattle.std.specs.Prelude.{◌≡◌, Bool, true, None, Option};
+ghost use Rattle.std.specs.Prelude.{◌≡◌, true, None, Option};
 ghost use Rattle.shelf.specs.Slots.{shown};
 ghost use Rattle.std.proofs.Common.{rules};
 
 // A record of a table. It has a key, of its own kind, unless it is in its empty form.
 pub trait Record: Copy {
-    type Key: Copy;
+    type Key: Copy + Eq;
 
     // the key, none for what is empty
     ghost key: { Self → Option Self.Key };
@@ -12,42 +12,29 @@ pub trait Record: Copy {
     // the empty form
     ghost empty: { Self };
 
-    // the equality of keys
-    ghost alike: { Self.Key → Self.Key → Bool };
-
     fn key(&self) -> Option<Self::Key>
         ensures { result ≡ key self.now };
 
     fn empty() -> Self
         ensures { result ≡ empty };
 
-    fn same(a: &Self::Key, b: &Self::Key) -> bool
-        ensures { result ≡ alike a.now b.now };
-
     ghost blank: { key empty ≡ None };
 
-    ghost equal: { (a b : Self.Key) → alike a b ≡ true → a ≡ b };
-
-    ghost itself: { (a : Self.Key) → alike a a ≡ true };
+    // keys that `==` finds equal are one key
+    ghost equal: { (a b : Self.Key) → Self.Key.eq a b ≡ true → a ≡ b };
 }
 
 // A value with a key of its own kind: what may stand in a slot.
 pub trait Keyed: Copy {
-    type Key: Copy;
+    type Key: Copy + Eq;
 
     ghost key: { Self → Self.Key };
-
-    ghost alike: { Self.Key → Self.Key → Bool };
 
     fn key(&self) -> Self::Key
         ensures { result ≡ key self.now };
 
-    fn same(a: &Self::Key, b: &Self::Key) -> bool
-        ensures { result ≡ alike a.now b.now };
-
-    ghost equal: { (a b : Self.Key) → alike a b ≡ true → a ≡ b };
-
-    ghost itself: { (a : Self.Key) → alike a a ≡ true };
+    // keys that `==` finds equal are one key
+    ghost equal: { (a b : Self.Key) → Self.Key.eq a b ≡ true → a ≡ b };
 }
 
 // A slot that may be empty is a record.
@@ -58,13 +45,9 @@ impl<T: Keyed> Record for Option<T> {
 
     ghost empty = { None };
 
-    ghost alike = { T.Keyed.alike };
-
     ghost blank = { Prim.search rules };
 
     ghost equal = { Prim.search rules };
-
-    ghost itself = { Prim.search rules };
 
     fn key(&self) -> Option<T::Key> {
         match self {
@@ -75,9 +58,5 @@ impl<T: Keyed> Record for Option<T> {
 
     fn empty() -> Self {
         None
-    }
-
-    fn same(a: &T::Key, b: &T::Key) -> bool {
-        T::same(a, b)
     }
 }

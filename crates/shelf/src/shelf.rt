@@ -5,6 +5,7 @@ use crate::record::Record;
 use crate::slots;
 
 // A table of records that the host lends.
+// Stays: `lent` and `Inside` tie a call's after or answer to its before, which no invariant of one value says.
 #[derive(Drop)]
 pub struct Shelf<'a, R> {
     slots: &'a mut [R],
@@ -20,9 +21,10 @@ impl<'a, R: Record> Shelf<'a, R> {
     }
 
     // The lowest slot that has the key.
+    // Stays: a host that holds the bare slice calls `slots::find`, so the methods hand the slice on.
     pub fn find(&self, key: &R::Key) -> Option<usize>
         ensures inside { Inside result self.now.slots.now }
-        ensures slot { result ≡ find R.Record.alike R.Record.key key.now self.now.slots.now }
+        ensures slot { result ≡ find R.Key.eq R.Record.key key.now self.now.slots.now }
     {
         slots::find(self.slots, key)
     }

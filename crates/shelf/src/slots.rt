@@ -3,34 +3,18 @@ ghost use Rattle.shelf.specs.Slots.{Inside, find, lowest, placed, shows, vacant 
 
 use crate::record::Record;
 
-// Whether a slot has the key that is sought; an empty slot is sought by none.
-fn matches<R: Record>(slot: &R, sought: Option<R::Key>) -> bool
-    ensures { result ≡ shows R.Record.alike sought (R.Record.key slot.now) }
-{
-    match (slot.key(), sought) {
-        (Some(own), Some(key)) => R::same(&own, &key),
-        (None, None) => true,
-        _ => false,
-    }
-}
-
 // The lowest slot that has the key that is sought, or is empty if none is sought.
 fn search<R: Record>(slots: &[R], sought: Option<R::Key>) -> Option<usize>
     ensures inside { Inside result slots.now }
-    ensures slot { result ≡ lowest (λ s. shows R.Record.alike sought (R.Record.key s)) slots.now }
+    ensures slot { result ≡ lowest (λ s. shows R.Key.eq sought (R.Record.key s)) slots.now }
 {
-    for (i, slot) in slots.iter().enumerate() {
-        if matches(slot, sought) {
-            return Some(i);
-        }
-    }
-    None
+    slots.iter().position(|slot| slot.key() == sought)
 }
 
 // The lowest slot that has the key.
 pub fn find<R: Record>(slots: &[R], key: &R::Key) -> Option<usize>
     ensures inside { Inside result slots.now }
-    ensures slot { result ≡ find R.Record.alike R.Record.key key.now slots.now }
+    ensures slot { result ≡ find R.Key.eq R.Record.key key.now slots.now }
 {
     search(slots, Some(*key))
 }
@@ -71,6 +55,7 @@ pub fn clear<R: Record>(slots: &mut [R], at: usize)
 }
 
 // Writes a record over every slot.
+// Stays: the slice's own `fill` asks what `clone` gives, for which each record would need two more laws.
 fn fill<R: Record>(slots: &mut [R], item: R)
     ensures { slots.new ≡ replicate (length slots.old) item }
 {
