@@ -1,6 +1,5 @@
 ghost use Rattle.rules.specs.Blocks.{block_key};
-ghost use Rattle.wire.specs.Format.{same_key};
-ghost use Rattle.rules.specs.Shelves.{key_same, key_itself};
+ghost use Rattle.rules.specs.Shelves.{key_same};
 
 use shelf::record::Keyed;
 use wire::body::Body;
@@ -21,20 +20,12 @@ impl Keyed for Block {
 
     ghost key = { block_key };
 
-    ghost alike = { same_key };
-
     ghost equal = { key_same };
-
-    ghost itself = { key_itself };
 
     fn key(&self) -> Key {
         Key {
             view: self.body.view,
             name: self.name,
         }
-    }
-
-    fn same(a: &Key, b: &Key) -> bool {
-        a.same(b)
     }
 }

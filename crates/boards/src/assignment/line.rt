@@ -1,4 +1,4 @@
-ghost use Rattle.std.specs.Prelude.{◌≡◌, ◌≤◌, length, nat_eq};
+ghost use Rattle.std.specs.Prelude.{◌≡◌, ◌≤◌, length};
 ghost use Rattle.boards.specs.Trucks.{trucks_at, truck_of};
 ghost use Rattle.std.proofs.Common.{rules};
 
@@ -24,17 +24,9 @@ impl Keyed for Line {
 
     ghost key = { truck_of };
 
-    ghost alike = { nat_eq };
-
     ghost equal = { Prim.search rules };
-
-    ghost itself = { Prim.search rules };
 
     fn key(&self) -> u16 {
         self.truck
-    }
-
-    fn same(a: &u16, b: &u16) -> bool {
-        *a == *b
     }
 }
