@@ -6,7 +6,7 @@ ghost use Rattle.rules.specs.State.{or_candidate};
 ghost use Rattle.rules.specs.Tick.{may_vote};
 ghost use Rattle.wire.specs.Format.{signed};
 
-use ledger::quorum::{has_signed, is_quorum};
+use ledger::quorum::is_quorum;
 use ledger::slot::{has_room, is_held};
 use parts::seals::Seals;
 use parts::store::Marks;
@@ -126,7 +126,7 @@ fn seal_stands<S: Seals>(seals: &S, statement: &Statement, signers: &Signers, i:
     requires { i < 16 }
     ensures { result ≡ (not (signed signers.now.set i) || (S.Seals.keys seals.now).table i statement.now (slice_index_or signers.now.seals i [])) }
 {
-    !has_signed(signers.set, i) || seals.check(i, statement, &signers.seals[i as usize])
+    !signers.has(i) || seals.check(i, statement, &signers.seals[i as usize])
 }
 
 // Whether every signer has a vote seal for the block that is accepted.

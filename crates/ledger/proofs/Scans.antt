@@ -1,12 +1,10 @@
 -- Scans of the shelf: whether some slot passes a test, and a sweep of every slot.
-use Rattle.std.proofs.Common.{◌≡◌, ℕ, ◌+◌, ◌/◌, ◌%◌, ◌^◌, ◌<◌, ◌≤◌, Bool, true, false, eqb, List, [], ◌∷◌, ◌++◌, map, length, get_or, take, drop, set, is_some, Some, None, refl, ap, ◌∙◌, arith, pow_mono}
-use native.Mathlib.Nat.{div-eq_of_lt}
+use Rattle.std.proofs.Common.{◌≡◌, ℕ, ◌+◌, ◌<◌, ◌≤◌, Bool, true, false, List, [], ◌∷◌, ◌++◌, map, length, get_or, take, drop, set, is_some, Some, None, refl, ap, ◌∙◌}
 use Rattle.std.proofs.lemmas.List.Edits.{map_over_more}
 use Rattle.std.proofs.lemmas.List.{get_or_default, take_all, drop_all, append-nil}
 use Rattle.rules.specs.Blocks.{Slot, some_slot, kept_above, swept}
 use Rattle.shelf.proofs.Search.{Passed, passed_more, passed_hit, passed_all}
 use Rattle.shelf.specs.Slots.{lowest}
-use Rattle.wire.specs.Format.{signed}
 
 -- a scan from the lowest slot up, at slot i
 read_at : (xs : List Slot) (i : ℕ) → i < length xs → get_or xs i None ≡ get_or xs i (get_or xs i None)

@@ -27,7 +27,7 @@ pub(crate) fn reaches_head<'a>(shelf: &'a [Option<Block>], head: &Key, block: &'
     ensures { result ≡ reaches shelf.now head.now block.now }
 {
     let mut at = block;
-    while !at.body.parent.same(head) {
+    while at.body.parent != *head {
         match parent(shelf, at) {
             Some(older) => at = older,
             None => return false,
@@ -50,7 +50,7 @@ pub(crate) fn hand_over<B: Board>(
     ensures after { B.Board.world board.new ≡ fed B.Board.rule (B.Board.world board.old) (all_orders (line shelf.now head.now block.now)) }
 {
     let mut older = 0;
-    if !block.body.parent.same(head) {
+    if block.body.parent != *head {
         if let Some(before) = parent(shelf, block) {
             older = hand_over(shelf, head, before, board);
         }

@@ -1,6 +1,5 @@
 ghost use Rattle.std.specs.Prelude.{◌≡◌};
 ghost use Rattle.votes.specs.Quorum.{is_quorum};
-ghost use Rattle.wire.specs.Format.{signed};
 
 // Whether the set is a quorum of n consoles.
 pub fn is_quorum(n: u8, set: u16) -> bool
@@ -8,11 +7,4 @@ pub fn is_quorum(n: u8, set: u16) -> bool
 {
     let spare = n.saturating_sub(1) / 3;
     set.count_ones() >= u32::from(n - spare)
-}
-
-// Whether console i is in the set.
-pub fn has_signed(set: u16, i: u8) -> bool
-    ensures { result ≡ signed «set» i }
-{
-    i < 16 && (set >> i) % 2 == 1
 }

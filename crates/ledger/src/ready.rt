@@ -14,7 +14,7 @@ fn is_child_of(slot: &Option<Block>, key: &Key) -> bool
     ensures { result ≡ names_parent key.now slot.now }
 {
     match slot {
-        Some(child) => child.body.parent.same(key),
+        Some(child) => child.body.parent == *key,
         None => false,
     }
 }
@@ -58,7 +58,7 @@ fn is_confirmed_by(n: u8, shelf: &[Option<Block>], block: &Block, slot: &Option<
 {
     match slot {
         Some(child) => {
-            child.body.parent.same(&key_of(block))
+            child.body.parent == key_of(block)
                 && is_certified_after(n, shelf, child, block.body.view)
         }
         None => false,

@@ -1,7 +1,7 @@
 ghost use Rattle.std.specs.Prelude.{◌≡◌, ◌<◌};
 ghost use Rattle.rules.specs.Settle.{completes, joined};
 
-use crate::quorum::{has_signed, is_quorum};
+use crate::quorum::is_quorum;
 use wire::certificate::Signers;
 
 // The tally after a vote. A voter joins once, with the first seal that came.
@@ -10,7 +10,7 @@ pub(crate) fn with_vote(tally: &Signers, voter: u8, seal: &[u8; 16]) -> Signers
     ensures { result ≡ joined voter seal.now tally.now }
 {
     let mut after = *tally;
-    if !has_signed(tally.set, voter) {
+    if !tally.has(voter) {
         after.set |= 1 << voter;
         after.seals[voter as usize] = *seal;
     }

@@ -14,7 +14,6 @@ use crate::checks::{
     refusal_of,
 };
 use crate::console::Console;
-use ledger::quorum::has_signed;
 use ledger::slot::{held, is_held, place};
 use parts::board::Board;
 use parts::seals::Seals;
@@ -121,7 +120,7 @@ impl<S: Seals, T: Store, B: Board> Console<S, T, B> {
         if !is_voters_seal(&self.seals, vote) {
             return Err(Refusal::VoterSeal);
         }
-        if has_signed(block.tally.set, vote.voter) {
+        if block.tally.has(vote.voter) {
             return Ok(Heard::Known);
         }
         Ok(self.count_vote(shelf, vote))

@@ -1,8 +1,9 @@
 use Rattle.std.proofs.Common.{ℕ, ◌+◌, sym, ap, ◌∙◌, arith, rules}
 use Rattle.parts.specs.Fed.{fed}
+use Rattle.std.proofs.lemmas.Bool.{not-false, not-true}
 use Rattle.ledger.proofs.Lines.{parent_below, line_here, line_end, hands_on, hands_first}
 use Rattle.ledger.proofs.chain.+hand_over.Goals as goal
-use Rattle.ledger.proofs.chain.+hand_over.Goals.{then-not-same+in-Some, then-not-same+in_default, else-not-same}
+use Rattle.ledger.proofs.chain.+hand_over.Goals.{then-ne+in-Some, then-ne+in_default, else-ne}
 
 pub hand_over-older-requires : goal.hand_over-older-requires
 hand_over-older-requires g t c =
@@ -11,12 +12,12 @@ hand_over-older-requires g t c =
 
 pub overflow_add-result : goal.overflow_add-result
 overflow_add-result g t c =
-    elim c.if-not-same.branch [
-      | then-not-same+in-Some w ↦
+    elim c.if-ne.branch [
+      | then-ne+in-Some w ↦
           let v = parent_below c.args.shelf.now c.args.block.now w.in-Some.before.now (sym w.in-Some.ensures) in
           omega (arith, w.older-is, w.hand_over-older.ensures.fits)
-      | then-not-same+in_default w ↦ omega (arith, w.older-is)
-      | else-not-same w ↦ omega (arith, w.older-is)
+      | then-ne+in_default w ↦ omega (arith, w.older-is)
+      | else-ne w ↦ omega (arith, w.older-is)
     ]
 
 pub returns : goal.returns
@@ -24,13 +25,13 @@ returns g t c =
     let shelf = c.args.shelf.now in
     let head = c.args.head.now in
     let block = c.args.block.now in
-    elim c.if-not-same.branch [
-      | then-not-same+in-Some w ↦
+    elim c.if-ne.branch [
+      | then-ne+in-Some w ↦
           let e = w.hand_over-older.ensures in
           let h =
           hands_on g.B.Board.rule shelf head block w.in-Some.before.now (g.B.Board.world c.args.board.now)
-          (g.B.Board.world c.if-not-same.board) (g.B.Board.world c.take_all.new.board) c.if-not-same.older _
-          (sym w.if-not-same.ensures.value) (sym w.in-Some.ensures)
+          (g.B.Board.world c.if-ne.board) (g.B.Board.world c.take_all.new.board) c.if-ne.older _
+          (not-true _ (sym w.if-ne.ensures)) (sym w.in-Some.ensures)
           (record {
             number = w.older-is ∙ e.number;
             fits = omega (arith, w.older-is, e.fits);
@@ -38,19 +39,19 @@ returns g t c =
           })
           c.as_slice.ensures.orders c.take_all.ensures in
           record { number = h.number; fits = h.fits; after = h.after }
-      | then-not-same+in_default w ↦
+      | then-ne+in_default w ↦
           let h =
           hands_first g.B.Board.rule shelf head block (g.B.Board.world c.args.board.now)
           (g.B.Board.world c.take_all.new.board) _
-          (line_end shelf head block (sym w.if-not-same.ensures.value) (sym w.in_default.ensures))
+          (line_end shelf head block (not-true _ (sym w.if-ne.ensures)) (sym w.in_default.ensures))
           c.as_slice.ensures.orders
           (c.take_all.ensures ∙ ap (λ b. fed g.B.Board.rule (g.B.Board.world b) c.as_slice.result.now) w.board-is) in
           record { number = ap (λ (k : ℕ). k + 1) w.older-is ∙ h.number; fits = omega (arith, w.older-is); after = h.after }
-      | else-not-same w ↦
+      | else-ne w ↦
           let h =
           hands_first g.B.Board.rule shelf head block (g.B.Board.world c.args.board.now)
           (g.B.Board.world c.take_all.new.board) _
-          (line_here shelf head block (sym w.if-not-same.ensures.value))
+          (line_here shelf head block (not-false _ (sym w.if-ne.ensures)))
           c.as_slice.ensures.orders
           (c.take_all.ensures ∙ ap (λ b. fed g.B.Board.rule (g.B.Board.world b) c.as_slice.result.now) w.board-is) in
           record { number = ap (λ (k : ℕ). k + 1) w.older-is ∙ h.number; fits = omega (arith, w.older-is); after = h.after }

@@ -1,4 +1,5 @@
 use Rattle.std.proofs.Common.{sym, ◌∙◌}
+use Rattle.std.proofs.lemmas.Bool.{not-false, not-true}
 use Rattle.ledger.proofs.Lines.{parent_below, reaches_here, reaches_on, reaches_end}
 use Rattle.ledger.proofs.chain.reaches_head.Goals as goal
 
@@ -7,11 +8,11 @@ loop-at-smaller c = parent_below _ c.loop-at.at.now c.in-Some.older.now (sym c.i
 
 pub loop-at-preserved : goal.loop-at-preserved
 loop-at-preserved c =
-    sym (reaches_on _ _ _ _ (sym c.loop-at-test.ensures.value) (sym c.in-Some.ensures)) ∙ c.loop-at.invariant
+    sym (reaches_on _ _ _ _ (not-true _ (sym c.loop-at-test.ensures)) (sym c.in-Some.ensures)) ∙ c.loop-at.invariant
 
 pub returns-in-None : goal.returns-in-None
 returns-in-None c =
-    sym (reaches_end _ _ _ (sym c.loop-at-test.ensures.value) (sym c.in-None.ensures)) ∙ c.loop-at.invariant
+    sym (reaches_end _ _ _ (not-true _ (sym c.loop-at-test.ensures)) (sym c.in-None.ensures)) ∙ c.loop-at.invariant
 
 pub returns : goal.returns
-returns c = sym (reaches_here _ _ _ (sym c.loop-at-test.ensures.value)) ∙ c.loop-at.invariant
+returns c = sym (reaches_here _ _ _ (not-false _ (sym c.loop-at-test.ensures))) ∙ c.loop-at.invariant

@@ -4,8 +4,8 @@ use Rattle.wire.specs.Format.{same_key}
 use Rattle.ledger.proofs.Choosing.{and_rest}
 use Rattle.ledger.proofs.ready.is_confirmed_by.Goals as goal
 
-pub returns-then-same : goal.returns-then-same
-returns-then-same c =
+pub returns-then-eq : goal.returns-then-eq
+returns-then-eq c =
     and_rest _ _ _ _ (ap (confirms c.args.n c.args.shelf.now c.args.block.now) c.in-Some.is)
-    (sym (c.if-same.ensures.value ∙ ap (same_key c.in-Some.child.body.parent) c.key_of.ensures))
+    (sym (c.if-eq.ensures ∙ ap (same_key c.in-Some.child.body.parent) c.key_of.ensures))
     c.is_certified_after.ensures

@@ -19,12 +19,12 @@ returns-then-not-is_voters_seal g c =
       same = refl;
     }
 
-pub returns-then-has_signed : goal.returns-then-has_signed
-returns-then-has_signed g c =
+pub returns-then-has : goal.returns-then-has
+returns-then-has g c =
     record {
       did =
           does_as _ _ _ _ _ _ _ _
-          (vote_known _ _ _ c.in-Some.block (sym c.in-Some.ensures) (sym c.if-not-is_voters_seal.ensures) (sym c.if-has_signed.ensures))
+          (vote_known _ _ _ c.in-Some.block (sym c.in-Some.ensures) (sym c.if-not-is_voters_seal.ensures) (sym c.if-has.ensures))
           (does_only _ _ _ _ _ _ _ _ _ refl refl);
       same = refl;
     }
@@ -34,7 +34,7 @@ returns g c =
     record {
       did =
           does_as _ _ _ _ _ _ _ _
-          (vote_new _ _ _ c.in-Some.block (sym c.in-Some.ensures) (sym c.if-not-is_voters_seal.ensures) (sym c.if-has_signed.ensures))
+          (vote_new _ _ _ c.in-Some.block (sym c.in-Some.ensures) (sym c.if-not-is_voters_seal.ensures) (sym c.if-has.ensures))
           c.count_vote.ensures.did;
       same = c.count_vote.ensures.same;
     }
