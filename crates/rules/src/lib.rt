@@ -8,11 +8,9 @@ pub mod refusal;
 
 // Whatever a console is told, it votes in rising views and never below its lock, forgets no vote, counts no voter twice,
 // and hands nothing over without a certified child of the very next view.
-pub fn calls_keep_the_rules() -> u8
+pub fn calls_keep_the_rules()
     ensures votes { EveryVote }
     ensures remembers { NoVoteLost }
     ensures counts { CountedOnce }
     ensures hands_over { EveryHandOver }
-{
-    0
-}
+{}

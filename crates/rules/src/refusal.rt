@@ -1,43 +1,47 @@
-ghost use Rattle.std.specs.Prelude.{◌≡◌};
+ghost use Rattle.std.specs.Prelude.{◌≡◌, Some, decimal};
+ghost use Rattle.rules.specs.Hear.{unread};
 ghost use Rattle.rules.specs.Refusals.{code};
 
+use std::fmt;
+use wire::unreadable::Unreadable;
+
 // Why a call is refused. `specs/Refusals.antt` gives each its number; a call tests them in that order.
-#[derive(Clone, Copy)]
+#[derive(Clone, Copy, PartialEq, Eq, Debug)]
 pub enum Refusal {
     // permit: n is below 4 or above 16
-    PitSize,
+    PitSize = 1,
     // permit: the own number is not below n
-    OwnNumber,
+    OwnNumber = 2,
     // the shelf has not 8 to 256 slots, or not as many as at opening
-    ShelfSize,
+    ShelfSize = 3,
     // the tick is not above the console's
-    OldTick,
+    OldTick = 4,
     // the turn is another console's or not of this tick, or the top certificate is not below its view
-    NotItsTurn,
+    NotItsTurn = 5,
     // the output is shorter than the longest proposal
-    ShortOutput,
+    ShortOutput = 6,
     // more than eight orders, or an ill-formed one
-    BadOrders,
+    BadOrders = 7,
     // the message opens with no known mark
-    Mark,
+    Mark = 8,
     // the message's length is not what its parts give
-    Length,
+    Length = 9,
     // the message's parts are ill-formed
-    Form,
+    Form = 10,
     // the proposal's view is above the console's
-    ViewAhead,
+    ViewAhead = 11,
     // the proposal's view is not above the head's
-    NotAboveHead,
+    NotAboveHead = 12,
     // the leader's seal is not accepted
-    LeaderSeal,
+    LeaderSeal = 13,
     // the certificate has no quorum, or a seal that is not accepted
-    BadCertificate,
+    BadCertificate = 14,
     // the block is new and no slot is empty
-    ShelfFull,
+    ShelfFull = 15,
     // the block voted for is not held
-    NotHeld,
+    NotHeld = 16,
     // the voter's seal is not accepted
-    VoterSeal,
+    VoterSeal = 17,
 }
 
 impl Refusal {
@@ -45,24 +49,28 @@ impl Refusal {
     pub fn number(&self) -> u8
         ensures { result ≡ code self.now }
     {
-        match self {
-            Refusal::PitSize => 1,
-            Refusal::OwnNumber => 2,
-            Refusal::ShelfSize => 3,
-            Refusal::OldTick => 4,
-            Refusal::NotItsTurn => 5,
-            Refusal::ShortOutput => 6,
-            Refusal::BadOrders => 7,
-            Refusal::Mark => 8,
-            Refusal::Length => 9,
-            Refusal::Form => 10,
-            Refusal::ViewAhead => 11,
-            Refusal::NotAboveHead => 12,
-            Refusal::LeaderSeal => 13,
-            Refusal::BadCertificate => 14,
-            Refusal::ShelfFull => 15,
-            Refusal::NotHeld => 16,
-            Refusal::VoterSeal => 17,
+        *self as u8
+    }
+}
+
+// A refusal is shown by its number.
+impl fmt::Display for Refusal {
+    ghost output = { λ r. Some (decimal (code r)) };
+
+    fn fmt<W: fmt::Write>(&self, f: &mut fmt::Formatter<W>) -> fmt::Result {
+        write!(f, "{}", self.number())
+    }
+}
+
+// A message that cannot be read is refused by the reader's own ground.
+impl From<Unreadable> for Refusal {
+    ghost from_gives = { λ e r. r ≡ unread e };
+
+    fn from(e: Unreadable) -> Refusal {
+        match e {
+            Unreadable::Mark => Refusal::Mark,
+            Unreadable::Length => Refusal::Length,
+            Unreadable::Form => Refusal::Form,
         }
     }
 }
