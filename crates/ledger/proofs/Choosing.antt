@@ -1,7 +1,11 @@
 -- Choosing the block to hand over.
-use Rattle.std.proofs.Common.{◌≡◌, ℕ, ◌+◌, ◌-◌, ◌<◌, ◌≤◌, Bool, true, false, ◌&&◌, eqb, ltb, List, [], ◌∷◌, length, get_or, drop, Some, None, sym, refl, ap, ◌∙◌, ⊎_elim, arith}
-use Rattle.std.proofs.lemmas.List.{at_drop_more, at_drop_all}
-use Rattle.std.proofs.lemmas.Bool.{cases_Bool, cond-true, cond-false, and_parts, both_ways, ltb-true}
+use Rattle.std.proofs.Common.{◌≡◌, ℕ, ◌+◌, ◌-◌, ◌<◌, ◌≤◌, Bool, true, false, cond, ◌&&◌, eqb, ltb, List, [], ◌∷◌, reverse, Some, None, Option, sym, refl, ap, ◌∙◌, ⊎_elim, arith}
+use Rattle.std.proofs.lemmas.List.{reverse-append}
+use Rattle.std.proofs.lemmas.List.Elements.{filter-append}
+use Rattle.std.proofs.lemmas.List.Sums.{fold-append}
+use Rattle.std.specs.List.{filter, fold}
+use Rattle.std.specs.Option.{SomeIff, option_eq}
+use Rattle.std.proofs.lemmas.Bool.{cases_Bool, cond-true, cond-false, and_parts, both_ways, ltb-true, ne_eqb}
 use Rattle.std.proofs.lemmas.Bool.Decides.{nat_tests}
 use Rattle.rules.specs.Blocks.{Slot, block_key, some_slot}
 use Rattle.rules.specs.Settle.{best, higher, ready, confirms, certified, reaches}
@@ -23,33 +27,38 @@ best_nil : (p : Slot → Bool) → best p [] ≡ None
 unfolding best
 best_nil p = refl
 
--- the loop from the last slot down
-pub best_start : (p : Slot → Bool) (xs : List Slot) (i : ℕ) → length xs ≤ i → None ≡ best p (drop i xs)
-best_start p xs i l = sym (at_drop_all (best p) xs i l ∙ best_nil p)
+-- the fold from the last slot down
+one_more : (p : Slot → Bool) (x found : Slot) → fold (λ a y. higher y a) found (filter p (x ∷ [])) ≡ cond (p x) (higher x found) found
+one_more p x found = by (p x)
+  where
+    by : (b : Bool) → fold (λ a y. higher y a) found (cond b (x ∷ []) []) ≡ cond b (higher x found) found
+    by true = refl
+    by false = refl
 
-pub best_takes :
-    (p : Slot → Bool) (xs : List Slot) (i : ℕ) (found : Slot) →
-    0 < i → i ≤ length xs → p (get_or xs (i - 1) None) ≡ true →
-    found ≡ best p (drop i xs) → higher (get_or xs (i - 1) None) found ≡ best p (drop (i - 1) xs)
-best_takes p xs i found z l e inv =
-    let k : i - 1 + 1 ≡ i = omega arith in
-    let d = at_drop_more (best p) xs (i - 1) None (omega arith) in
-    let h = best_hit p (get_or xs (i - 1) None) (drop (i - 1 + 1) xs) e in
-    cc
-
-pub best_keeps :
-    (p : Slot → Bool) (xs : List Slot) (i : ℕ) (found : Slot) →
-    0 < i → i ≤ length xs → p (get_or xs (i - 1) None) ≡ false →
-    found ≡ best p (drop i xs) → found ≡ best p (drop (i - 1) xs)
-best_keeps p xs i found z l e inv =
-    let k : i - 1 + 1 ≡ i = omega arith in
-    let d = at_drop_more (best p) xs (i - 1) None (omega arith) in
-    let h = best_miss p (get_or xs (i - 1) None) (drop (i - 1 + 1) xs) e in
-    cc
+pub best_fold : (p : Slot → Bool) (xs : List Slot) → fold (λ found x. higher x found) None (filter p (reverse xs)) ≡ best p xs
+unfolding best
+best_fold p [] = refl
+best_fold p (x ∷ xs) =
+    let raise : Slot → Slot → Slot = λ found y. higher y found in
+    ap (λ l. fold raise None (filter p l)) (reverse-append (x ∷ []) xs)
+    ∙ ap (fold raise None) (filter-append p (reverse xs) (x ∷ []))
+    ∙ fold-append raise None (filter p (reverse xs)) (filter p (x ∷ []))
+    ∙ one_more p x (fold raise None (filter p (reverse xs)))
+    ∙ ap (λ a. cond (p x) (higher x a) a) (best_fold p xs)
 
 best_none : (p : Slot → Bool) → ((x : Slot) → p x ≡ false) → (xs : List Slot) → best p xs ≡ None
 best_none p h [] = best_nil p
 best_none p h (x ∷ xs) = best_miss p x xs (h x) ∙ best_none p h xs
+
+-- the view before another, if there is one
+one_less : (x view before : ℕ) → 1 ≤ view → x ≡ view - 1 → eqb x before ≡ eqb view (before + 1)
+one_less x view before l e = grind (arith, nat_tests)
+
+pub view_before :
+    (o : Option ℕ) (view before : ℕ) → SomeIff o (1 ≤ view) (view - 1) →
+    option_eq eqb o (Some before) ≡ eqb view (before + 1)
+view_before None view before n = sym (ne_eqb _ _ (λ e. n (omega arith)))
+view_before (Some x) view before h = one_less x view before h.0 h.1
 
 confirming :
     (n : ℕ) (xs : List Slot) (head : Key) (b c : Block) →

@@ -1,33 +1,21 @@
 -- Scans of the shelf: whether some slot passes a test, and a sweep of every slot.
-use Rattle.std.proofs.Common.{◌≡◌, ℕ, ◌+◌, ◌<◌, ◌≤◌, Bool, true, false, List, [], ◌∷◌, ◌++◌, map, length, get_or, take, drop, set, is_some, Some, None, refl, ap, ◌∙◌}
+use Rattle.std.proofs.Common.{◌≡◌, ℕ, ◌+◌, ◌<◌, ◌≤◌, Bool, true, false, cond, ◌||◌, List, [], ◌∷◌, ◌++◌, map, length, get_or, take, drop, set, is_some, Some, None, Option, refl, ap, ◌∙◌}
+use Rattle.std.specs.List.{list_any}
 use Rattle.std.proofs.lemmas.List.Edits.{map_over_more}
 use Rattle.std.proofs.lemmas.List.{get_or_default, take_all, drop_all, append-nil}
 use Rattle.rules.specs.Blocks.{Slot, some_slot, kept_above, swept}
-use Rattle.shelf.proofs.Search.{Passed, passed_more, passed_hit, passed_all}
-use Rattle.shelf.specs.Slots.{lowest}
+use Rattle.shelf.specs.Slots.{beyond, lowest}
 
--- a scan from the lowest slot up, at slot i
-read_at : (xs : List Slot) (i : ℕ) → i < length xs → get_or xs i None ≡ get_or xs i (get_or xs i None)
-read_at xs i l = get_or_default xs i None (get_or xs i None) l
+-- std's `list_any`: some slot passes the test
+some_step : (b : Bool) (o : Option ℕ) (r : Bool) → r ≡ is_some o → (b || r) ≡ is_some (cond b (Some 0) (beyond 1 o))
+some_step true o r e = refl
+some_step false None r e = e
+some_step false (Some i) r e = e
 
-pub scan_more :
-    (test : Slot → Bool) (xs : List Slot) (i : ℕ) →
-    i < length xs → test (get_or xs i None) ≡ false → Passed test xs i → Passed test xs (i + 1)
-scan_more test xs i l e inv = passed_more test xs i (get_or xs i None) l (read_at xs i l) e inv
-
-pub scan_hit :
-    (test : Slot → Bool) (xs : List Slot) (i : ℕ) →
-    i < length xs → test (get_or xs i None) ≡ true → Passed test xs i → Some i ≡ lowest test xs
-scan_hit test xs i l e inv = passed_hit test xs i (get_or xs i None) l (read_at xs i l) e inv
-
-pub some_hit :
-    (test : Slot → Bool) (xs : List Slot) (i : ℕ) →
-    i < length xs → test (get_or xs i None) ≡ true → Passed test xs i → true ≡ some_slot test xs
-some_hit test xs i l e inv = ap is_some (scan_hit test xs i l e inv)
-
-pub some-all :
-    (test : Slot → Bool) (xs : List Slot) (i : ℕ) → length xs ≤ i → Passed test xs i → false ≡ some_slot test xs
-some-all test xs i l inv = ap is_some (passed_all test xs i l inv)
+pub some_slot_any : (test : Slot → Bool) (xs : List Slot) → list_any test xs ≡ some_slot test xs
+unfolding lowest
+some_slot_any test [] = refl
+some_slot_any test (x ∷ xs) = some_step (test x) (lowest test xs) (list_any test xs) (some_slot_any test xs)
 
 -- a sweep, slot by slot
 swept-map : (v : ℕ) (xs : List Slot) → swept v xs ≡ map (kept_above v) xs
@@ -43,7 +31,7 @@ pub sweep_one :
     i < length xs →
     i < length ys → y ≡ kept_above v (get_or ys i None) → SweptTo v xs ys i → SweptTo v xs (set ys i y) (i + 1)
 sweep_one v xs ys i y l k e inv =
-    ap (set ys i) e ∙ map_over_more (kept_above v) xs ys i (get_or ys i None) l inv (read_at ys i k)
+    ap (set ys i) e ∙ map_over_more (kept_above v) xs ys i (get_or ys i None) l inv (get_or_default ys i None (get_or ys i None) k)
 
 pub sweep_all : (v : ℕ) (xs ys : List Slot) (i : ℕ) → length xs ≤ i → SweptTo v xs ys i → ys ≡ swept v xs
 sweep_all v xs ys i l inv =

@@ -1,32 +1,15 @@
 ghost use Rattle.std.specs.Prelude.{◌≡◌, length, replicate, Some, None};
-ghost use Rattle.rules.specs.Blocks.{block_key, has_room, held, is_held, put as put_block, slot_key, where_held};
+ghost use Rattle.rules.specs.Blocks.{has_room, held, is_held, put as put_block, slot_key, swept, where_held};
 ghost use Rattle.rules.specs.Settle.{fresh};
 ghost use Rattle.shelf.specs.Slots.{Inside};
 ghost use Rattle.wire.specs.Format.{same_key};
+ghost use Rattle.ledger.specs.Handed.{Emptied};
 
 use rules::block::Block;
-use shelf::shelf::Shelf;
 use shelf::slots;
 use wire::body::Body;
 use wire::certificate::Signers;
 use wire::key::Key;
-
-// The view of a block.
-pub(crate) fn view_of(block: &Block) -> u32
-    ensures { result ≡ block.now.body.view }
-{
-    block.body.view
-}
-
-// The key of a block.
-pub fn key_of(block: &Block) -> Key
-    ensures { result ≡ block_key block.now }
-{
-    Key {
-        view: block.body.view,
-        name: block.name,
-    }
-}
 
 // The lowest slot that has the key.
 pub fn find(shelf: &[Option<Block>], key: &Key) -> Option<usize>
@@ -72,15 +55,30 @@ fn fresh_block(body: &Body, name: &[u8; 32]) -> Block
 pub fn place(shelf: &mut [Option<Block>], body: &Body, name: &[u8; 32])
     ensures { shelf.new ≡ put_block (fresh body.now name.now) shelf.old }
 {
-    let block = fresh_block(body, name);
-    let mut table = Shelf::over(shelf);
-    let _ = table.put(Some(block));
+    let _ = slots::put(shelf, Some(fresh_block(body, name)));
 }
 
 // Empties every slot.
 pub fn clear_all(shelf: &mut [Option<Block>])
     ensures { shelf.new ≡ replicate (length shelf.old) None }
 {
-    let mut table = Shelf::over(shelf);
-    table.clear_all();
+    shelf.fill(None);
+}
+
+// Whether the slot is to be emptied: its block is of view up to this one.
+fn is_spent(slot: &Option<Block>, view: u32) -> bool
+    ensures { Emptied result view slot.now }
+{
+    slot.as_ref().is_some_and(|block| block.body.view <= view)
+}
+
+// Empties the slots of view up to this one.
+pub(crate) fn sweep(shelf: &mut [Option<Block>], view: u32)
+    ensures { shelf.new ≡ swept view shelf.old }
+{
+    for slot in shelf.iter_mut() {
+        if is_spent(slot, view) {
+            *slot = None;
+        }
+    }
 }

@@ -3,16 +3,18 @@ ghost use Rattle.rules.specs.Settle.{completes, joined};
 
 use crate::quorum::is_quorum;
 use wire::certificate::Signers;
+use wire::message::Vote;
 
 // The tally after a vote. A voter joins once, with the first seal that came.
-pub(crate) fn with_vote(tally: &Signers, voter: u8, seal: &[u8; 16]) -> Signers
-    requires { voter < 16 }
-    ensures { result ≡ joined voter seal.now tally.now }
+pub(crate) fn with_vote(tally: &Signers, vote: &Vote) -> Signers
+    requires { vote.now.voter < 16 }
+    ensures { result ≡ joined vote.now.voter vote.now.seal tally.now }
 {
+    let voter = vote.voter;
     let mut after = *tally;
     if !tally.has(voter) {
         after.set |= 1 << voter;
-        after.seals[voter as usize] = *seal;
+        after.seals[voter as usize] = vote.seal;
     }
     after
 }

@@ -4,11 +4,13 @@ ghost use Rattle.wire.specs.Format.{origin, origin_certificate};
 ghost use Rattle.ledger.specs.Ledgers.{ledger_of};
 
 use crate::progress::Progress;
-use crate::slot::{find, key_of};
+use crate::slot::find;
 use crate::tally::{came_to_quorum, with_vote};
 use rules::block::Block;
+use shelf::record::Keyed;
 use wire::certificate::{Certificate, Signers};
 use wire::key::Key;
+use wire::message::Vote;
 
 // The certificate of higher view, the first on a tie.
 fn higher_certificate_of(top: &Certificate, new: &Certificate) -> Certificate
@@ -21,18 +23,15 @@ fn higher_certificate_of(top: &Certificate, new: &Certificate) -> Certificate
     }
 }
 
-// The top certificate after the tally of a block went from `before` to `after`.
-fn top_with(n: u8, top: &Certificate, block: &Key, before: &Signers, after: &Signers) -> Certificate
-    ensures { result ≡ top_after n top.now block.now before.now after.now }
+// The top certificate after the tally of a block came from `before` to these signers.
+fn top_with(n: u8, top: &Certificate, before: &Signers, made: &Certificate) -> Certificate
+    ensures { result ≡ top_after n top.now made.now.block before.now made.now.signers }
 {
-    if !came_to_quorum(n, before, after) {
-        return *top;
+    if came_to_quorum(n, before, &made.signers) {
+        higher_certificate_of(top, made)
+    } else {
+        *top
     }
-    let made = Certificate {
-        block: *block,
-        signers: *after,
-    };
-    higher_certificate_of(top, &made)
 }
 
 impl Progress {
@@ -88,31 +87,24 @@ impl Progress {
 
     // Enters a vote into the tally of its block, if that is held, which may raise the top certificate. No console has
     // a number above 15.
-    pub fn enter(
-        &mut self,
-        n: u8,
-        shelf: &mut [Option<Block>],
-        key: &Key,
-        voter: u8,
-        seal: &[u8; 16],
-    )
-        ensures { ledger_of self.new shelf.new ≡ (if nat_lt voter 16 then enter n key.now voter seal.now (ledger_of self.old shelf.old) else ledger_of self.old shelf.old) }
+    pub fn enter(&mut self, n: u8, shelf: &mut [Option<Block>], vote: &Vote)
+        ensures { ledger_of self.new shelf.new ≡ (if nat_lt vote.now.voter 16 then enter n vote.now.block vote.now.voter vote.now.seal (ledger_of self.old shelf.old) else ledger_of self.old shelf.old) }
     {
-        if voter >= 16 {
+        if vote.voter >= 16 {
             return;
         }
-        let Some(at) = find(shelf, key) else {
+        let Some(at) = find(shelf, &vote.block) else {
             return;
         };
         let Some(block) = shelf[at] else {
             return;
         };
-        let tally = with_vote(&block.tally, voter, seal);
-        self.top = top_with(n, &self.top, &key_of(&block), &block.tally, &tally);
-        shelf[at] = Some(Block {
-            body: block.body,
-            name: block.name,
-            tally,
-        });
+        let tally = with_vote(&block.tally, vote);
+        let made = Certificate {
+            block: block.key(),
+            signers: tally,
+        };
+        self.top = top_with(n, &self.top, &block.tally, &made);
+        shelf[at] = Some(Block { tally, ..block });
     }
 }

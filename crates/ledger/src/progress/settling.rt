@@ -4,12 +4,12 @@ ghost use Rattle.rules.specs.Settle.{settle};
 ghost use Rattle.sheets.specs.Sheet.{all_orders};
 ghost use Rattle.ledger.specs.Ledgers.{ledger_of};
 
-use crate::chain::{hand_over, sweep};
+use crate::branches::Branches;
 use crate::progress::Progress;
-use crate::ready::{best_ready, may_settle};
-use crate::slot::{key_of, view_of};
+use crate::slot::sweep;
 use parts::board::Board;
 use rules::block::Block;
+use shelf::record::Keyed;
 
 impl Progress {
     // Hands over what can be, up to the block of highest view, and answers how many blocks these were.
@@ -18,16 +18,20 @@ impl Progress {
         ensures ledger { ledger_of self.new shelf.new ≡ (settle n (ledger_of self.old shelf.old)).ledger }
         ensures after { B.Board.world board.new ≡ fed B.Board.rule (B.Board.world board.old) (all_orders (settle n (ledger_of self.old shelf.old)).handed) }
     {
-        if !may_settle(n, shelf, &self.head) {
+        let branches = Branches {
+            n,
+            shelf: &*shelf,
+            head: self.head,
+        };
+        if !branches.may_settle() {
             return 0;
         }
-        let Some(block) = best_ready(n, shelf, &self.head) else {
+        let Some(block) = branches.best_ready() else {
             return 0;
         };
-        let view = view_of(&block);
-        let over = hand_over(shelf, &self.head, &block, board);
-        sweep(shelf, view);
-        self.head = key_of(&block);
+        let over = branches.hand_over(&block, board);
+        sweep(shelf, block.body.view);
+        self.head = block.key();
         self.count += over as u64;
         over
     }

@@ -1,5 +1,4 @@
-use Rattle.std.proofs.Common.{ℕ, sym, ap, ◌∙◌, arith}
-use Rattle.rules.specs.Blocks.{swept}
+use Rattle.std.proofs.Common.{sym, ap, arith}
 use Rattle.wire.specs.declared.key.Key.{Key}
 use Rattle.ledger.proofs.Choosing.{quiet_best, best_above}
 use Rattle.ledger.proofs.Outcomes.{nothing_settled, line_settled}
@@ -26,14 +25,14 @@ overflow_add-self g c = let a = best_above _ _ _ c.in-Some.block (sym c.in-Some.
 pub invariant_of-self : goal.invariant_of-self
 invariant_of-self g c =
     let a = best_above _ _ _ c.in-Some.block (sym c.in-Some.ensures) in
-    let k = ap (λ (x : Key). x.view) c.key_of-self.ensures in
+    let k = ap (λ (x : Key). x.view) c.key-self.ensures in
     record { counted = omega arith }
 
 pub returns : goal.returns
 returns g c =
     let s =
     line_settled g.B.Board.rule (g.B.Board.world c.args.board.now) (g.B.Board.world c.hand_over-over.new.board) c.args.n
-    (ledger_of c.args.self.now c.args.shelf.now) c.in-Some.block c.hand_over-over.result c.sweep.new.shelf c.key_of-self.result
-    (sym c.in-Some.ensures) c.hand_over-over.ensures.number (c.sweep.ensures ∙ ap (λ (v : ℕ). swept v c.args.shelf.now) c.view_of-view.ensures) c.key_of-self.ensures
+    (ledger_of c.args.self.now c.args.shelf.now) c.in-Some.block c.hand_over-over.result c.sweep.new.shelf c.key-self.result
+    (sym c.in-Some.ensures) c.hand_over-over.ensures.number c.sweep.ensures c.key-self.ensures
     c.hand_over-over.ensures.after in
     record { number = s.number; ledger = s.ledger; after = s.world }
