@@ -1,10 +1,11 @@
 -- Seals as bytes.
-use Rattle.std.proofs.Common.{◌≡◌, ℕ, zero, suc, ◌+◌, ◌<◌, ◌≤◌, Bool, true, false, List, [], ◌∷◌, ◌++◌, length, get_or, take, drop, set, Decides, sym, refl, ap, ◌∙◌, arith}
+use Rattle.std.proofs.Common.{◌≡◌, ℕ, zero, suc, ◌+◌, ◌<◌, ◌≤◌, true, List, [], ◌∷◌, ◌++◌, map, length, get_or, take, drop, sym, refl, ap, ◌∙◌, arith}
 use Rattle.std.specs.Str.{bytes_eq}
+use Rattle.std.specs.Array.{IsMapOf}
+use denote.Param.Members.{Mut, Called}
 use Rattle.std.proofs.lemmas.Slice.Eq.{bytes_eq-Decides}
-use Rattle.std.proofs.lemmas.List.{append_assoc, drop_more, get_or-map, length-map, map-set, take_all, take_more, take_more_set}
+use Rattle.std.proofs.lemmas.List.{append_assoc, drop_more, get_or-map}
 use Rattle.std.proofs.lemmas.Bool.{and_from, and_parts, lt-ltb, ltb-true}
-use Rattle.std.proofs.lemmas.Bool.Decides.{same_from_decides}
 use Rattle.wire.specs.Bytes.{be}
 use Rattle.wire.specs.Format.{purpose_mark, statement_bytes}
 use Rattle.wire.specs.declared.statement.Purpose.{Purpose}
@@ -18,20 +19,12 @@ use Rattle.parts.specs.Stamp.{stamp, StampLaw}
 pub same_itself : (xs ys : List ℕ) → xs ≡ ys → bytes_eq xs ys ≡ true
 same_itself xs ys e = (bytes_eq-Decides xs ys).1 e
 
-pub same_by : (r : Bool) (xs ys : List ℕ) → Decides r (xs ≡ ys) → r ≡ bytes_eq xs ys
-same_by r xs ys d = same_from_decides r (bytes_eq xs ys) d (bytes_eq-Decides xs ys)
-
-pub same_short : (xs ys : List ℕ) → (length xs ≡ length ys → ⊥) → false ≡ bytes_eq xs ys
-same_short xs ys n =
-    same_by false xs ys
-    (λ e. absurd (let z : ◌≡◌ {A = ℕ} 0 1 = cc in omega arith), λ e. absurd (n (ap (λ (l : List ℕ). length l) e)))
-
 -- the n elements from place i on, read one by one
 abbrev pub reads : ℕ → ℕ → List ℕ → List ℕ
 reads zero i xs = []
 reads (suc n) i xs = get_or xs i 0 ∷ reads n (i + 1) xs
 
-reads_is : (n i : ℕ) (xs : List ℕ) → i + n ≤ length xs → reads n i xs ≡ take n (drop i xs)
+pub reads_is : (n i : ℕ) (xs : List ℕ) → i + n ≤ length xs → reads n i xs ≡ take n (drop i xs)
 reads_is zero i xs h = refl
 reads_is (suc n) i xs h =
     let d = drop_more xs i 0 (omega arith) in
@@ -79,27 +72,28 @@ pub keyed_accepted :
     signer < 16 → seal ≡ keyed_seal (get_or keys signer []) statement → keyed_table keys signer statement seal ≡ true
 keyed_accepted keys signer statement seal low e = and_from _ _ (lt-ltb _ _ low) (same_itself seal _ e)
 
--- one key more made ready
-pub ready_more :
-    (all : List MacKey) (keys : List (List ℕ)) (i : ℕ) (k : MacKey) →
-    i < length all →
-    i < length keys →
-    k.key ≡ get_or keys i [] → take i (key_bytes all) ≡ take i keys → take (i + 1) (key_bytes (set all i k)) ≡ take (i + 1) keys
-ready_more all keys i k l m is inv =
-    let s = map-set (λ (x : MacKey). x.key) all i k in
-    let n : i < length (key_bytes all) = rw length-map l in
-    let t = take_more_set (key_bytes all) i k.key n in
-    let u = take_more keys i [] m in
-    cc
-
-pub ready_all :
-    (all : List MacKey) (keys : List (List ℕ)) (i : ℕ) →
-    length all ≤ i → length keys ≤ i → take i (key_bytes all) ≡ take i keys → key_bytes all ≡ keys
-ready_all all keys i l m inv =
-    let n : length (key_bytes all) ≤ i = rw length-map l in
-    let a = take_all i (key_bytes all) n in
-    let b = take_all i keys m in
-    cc
+-- each key made ready, by a call that keeps its bytes
+pub keys_mapped :
+    {F A : Type 0} (g : Mut F (A × Unit {0}) MacKey) (bytes : A → List ℕ) (f : F) (keys : List A) (all : List MacKey) (n : ℕ) →
+    IsMapOf g f keys all n →
+    length keys ≡ n →
+    ((key : A) (k : MacKey) (p q : F) → Called g p (key, tt) k q → k.key ≡ bytes key) → key_bytes all ≡ map bytes keys
+keys_mapped {F} {A} g bytes f keys all n made long keeps =
+    same all keys (made.long ∙ sym long)
+    (λ i d e below. let one = made.at i d e (omega (arith, made.long)) in keeps _ _ one.0 one.1 one.2)
+  where
+    same :
+        (all : List MacKey) (keys : List A) →
+        length all ≡ length keys →
+        ((i : ℕ) (d : A) (e : MacKey) → i < length all → (get_or all i e).key ≡ bytes (get_or keys i d)) →
+        key_bytes all ≡ map bytes keys
+    same [] [] l h = refl
+    same [] (key ∷ keys) l h = absurd (omega arith)
+    same (k ∷ all) [] l h = absurd (omega arith)
+    same (k ∷ all) (key ∷ keys) l h =
+        let first : k.key ≡ bytes key = h 0 key k (omega arith) in
+        let rest = same all keys (omega arith) (λ i d e below. h (suc i) d e (omega arith)) in
+        cc
 
 -- a key read out of those made ready
 pub key_read :

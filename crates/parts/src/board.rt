@@ -1,4 +1,4 @@
-ghost use Rattle.std.specs.Prelude.{◌≡◌, ◌+◌, ◌<◌, Bool, length, drop};
+ghost use Rattle.std.specs.Prelude.{◌≡◌, Bool};
 ghost use Rattle.parts.specs.Fed.{fed};
 ghost use Rattle.wire.specs.declared.order.Order.{Order};
 
@@ -25,19 +25,11 @@ pub trait Board {
         ensures after { world self.new ≡ rule (world self.old) order.now };
 }
 
-// Takes the order at a place of the list: what is left of the list then leads to the same state.
-fn take_at<B: Board>(board: &mut B, orders: &[Order], at: usize)
-    requires { at < length orders.now }
-    ensures { fed B.Board.rule (B.Board.world board.new) (drop (at + 1) orders.now) ≡ fed B.Board.rule (B.Board.world board.old) (drop at orders.now) }
-{
-    board.take(&orders[at]);
-}
-
 // Takes orders in sequence.
 pub fn take_all<B: Board>(board: &mut B, orders: &[Order])
     ensures { B.Board.world board.new ≡ fed B.Board.rule (B.Board.world board.old) orders.now }
 {
-    for at in 0..orders.len() {
-        take_at(board, orders, at);
+    for order in orders {
+        board.take(order);
     }
 }

@@ -1,4 +1,4 @@
-ghost use Rattle.std.specs.Prelude.{◌≡◌, ◌<◌, true};
+ghost use Rattle.std.specs.Prelude.{◌≡◌, ◌<◌, true, nat_lt};
 ghost use Rattle.parts.specs.Meaning.{Keys};
 ghost use Rattle.std.specs.Str.{bytes_eq};
 
@@ -35,14 +35,19 @@ pub fn seal_and_check<S: Seals>(seals: &S, statement: &Statement) -> bool
     seals.check(seals.own(), statement, &seal)
 }
 
+// Whether one of the sixteen signers has the number.
+pub(crate) fn is_signer(number: u8) -> bool
+    ensures { result ≡ nat_lt number 16 }
+{
+    number < 16
+}
+
 // Whether the bytes are this seal, in a time that does not tell where they differ.
 pub(crate) fn is_seal(given: &[u8], seal: &[u8; 16]) -> bool
     ensures { result ≡ bytes_eq given.now seal.now }
 {
-    if given.len() != 16 {
-        return false;
+    match <&[u8; 16]>::try_from(given) {
+        Ok(given) => same_seal(given, seal),
+        Err(_) => false,
     }
-    let mut bytes = [0; 16];
-    bytes.copy_from_slice(given);
-    same_seal(&bytes, seal)
 }

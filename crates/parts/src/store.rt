@@ -5,7 +5,7 @@ pub mod held;
 pub mod image;
 
 // What a console must not forget: its lock, and the last views that it voted and proposed in.
-#[derive(Clone, Copy, Default)]
+#[derive(Clone, Copy, Default, PartialEq, Eq)]
 pub struct Marks {
     pub lock: u32,
     pub voted: u32,

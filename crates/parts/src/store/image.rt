@@ -1,6 +1,5 @@
-ghost use Rattle.std.specs.Prelude.{◌≡◌, ◌≤◌};
+ghost use Rattle.std.specs.Prelude.{◌≡◌};
 ghost use Rattle.parts.specs.Image.{ImageExample, image, marks_in};
-ghost use Rattle.wire.specs.Bytes.{number};
 
 use super::{Marks, Store};
 
@@ -10,42 +9,32 @@ pub struct Image {
     bytes: [u8; 14],
 }
 
-// The number in the four bytes from place `at` on.
-fn word(bytes: &[u8; 14], at: usize) -> u32
-    requires { at ≤ 10 }
-    ensures { result ≡ number at 4 bytes.now }
-{
-    u32::from_be_bytes([bytes[at], bytes[at + 1], bytes[at + 2], bytes[at + 3]])
-}
-
 // The numbers in an image; three zeros if it does not begin with ST.
-fn read(bytes: &[u8; 14]) -> Marks
-    ensures { result ≡ marks_in bytes.now }
-{
-    if bytes[0] == b'S' && bytes[1] == b'T' {
+impl From<Image> for Marks {
+    ghost from_gives = { λ i m. m ≡ marks_in i.bytes };
+
+    fn from(image: Image) -> Self {
+        let [b'S', b'T', a, b, c, d, e, f, g, h, i, j, k, l] = image.bytes else {
+            return Marks::default();
+        };
         Marks {
-            lock: word(bytes, 2),
-            voted: word(bytes, 6),
-            proposed: word(bytes, 10),
-        }
-    } else {
-        Marks {
-            lock: 0,
-            voted: 0,
-            proposed: 0,
+            lock: u32::from_be_bytes([a, b, c, d]),
+            voted: u32::from_be_bytes([e, f, g, h]),
+            proposed: u32::from_be_bytes([i, j, k, l]),
         }
     }
 }
 
 // The image of three numbers.
-fn write(marks: Marks) -> [u8; 14]
-    ensures bytes { result ≡ image marks }
-    ensures back { marks_in result ≡ marks }
-{
-    let [a, b, c, d] = marks.lock.to_be_bytes();
-    let [e, f, g, h] = marks.voted.to_be_bytes();
-    let [i, j, k, l] = marks.proposed.to_be_bytes();
-    [b'S', b'T', a, b, c, d, e, f, g, h, i, j, k, l]
+impl From<Marks> for Image {
+    ghost from_gives = { λ m i. (i.bytes ≡ image m) × (marks_in i.bytes ≡ m) };
+
+    fn from(marks: Marks) -> Self {
+        let [a, b, c, d] = marks.lock.to_be_bytes();
+        let [e, f, g, h] = marks.voted.to_be_bytes();
+        let [i, j, k, l] = marks.proposed.to_be_bytes();
+        Self::new([b'S', b'T', a, b, c, d, e, f, g, h, i, j, k, l])
+    }
 }
 
 impl Image {
@@ -68,20 +57,18 @@ impl Store for Image {
     ghost kept = { λ s. marks_in s.bytes };
 
     fn load(&self) -> Marks {
-        read(&self.bytes)
+        Marks::from(*self)
     }
 
     fn save(&mut self, marks: Marks)
         ensures kept { marks_in self.new.bytes ≡ marks }
         ensures written { self.new.bytes ≡ image marks }
     {
-        *self = Self::new(write(marks));
+        *self = Self::from(marks);
     }
 }
 
 // The worked example of an image.
-pub fn image_stands() -> u8
+pub fn image_stands()
     ensures { ImageExample }
-{
-    0
-}
+{}

@@ -1,9 +1,9 @@
-ghost use Rattle.std.specs.Prelude.{◌≡◌, ◌<◌, ◌≤◌, true, [], MatchOption, slice_index_or};
+ghost use Rattle.std.specs.Prelude.{◌≡◌, ◌<◌, ◌≤◌, true, [], IfSome, MatchOption, slice_index_or};
 ghost use Rattle.parts.specs.Keyed.{KeyedLaw, key_bytes, keyed_seal, keyed_table};
 ghost use Rattle.std.proofs.Common.{rules, arith};
 
 use super::KeyedSeals;
-use crate::seals::{Seals, is_seal};
+use crate::seals::{Seals, is_seal, is_signer};
 use digest::MacKey;
 use wire::statement::Statement;
 
@@ -21,23 +21,23 @@ fn seal_by(key: &MacKey, statement: &Statement) -> [u8; 16]
 fn ready(keys: &[[u8; 32]; 16]) -> [MacKey; 16]
     ensures { key_bytes result ≡ keys.now }
 {
-    let mut all = [MacKey::new(&keys[0]); 16];
-    for i in 0..16usize {
-        all[i] = MacKey::new(&keys[i]);
-    }
-    all
+    keys.each_ref().map(MacKey::new)
 }
 
 impl KeyedSeals {
     // None if the own number is not below 16.
     pub fn new(own: u8, keys: &[[u8; 32]; 16]) -> Option<Self>
-        ensures { MatchOption result (16 ≤ own) (λ s. (s.own ≡ own) × (key_bytes s.keys ≡ keys.now)) }
+        ensures own { MatchOption result (16 ≤ own) (λ s. s.own ≡ own) }
+        ensures keys { IfSome result (λ s. key_bytes s.keys ≡ keys.now) }
     {
-        if own >= 16 {
-            return None;
+        if is_signer(own) {
+            Some(KeyedSeals {
+                own,
+                keys: ready(keys),
+            })
+        } else {
+            None
         }
-        let keys = ready(keys);
-        Some(KeyedSeals { own, keys })
     }
 
     // The signer's seal of a statement.
@@ -60,7 +60,7 @@ impl Seals for KeyedSeals {
     }
 
     fn check(&self, signer: u8, statement: &Statement, seal: &[u8]) -> bool {
-        signer < 16 && is_seal(seal, &self.seal_of(signer, statement))
+        is_signer(signer) && is_seal(seal, &self.seal_of(signer, statement))
     }
 
     fn seal(&self, statement: &Statement) -> [u8; 16]
@@ -72,8 +72,6 @@ impl Seals for KeyedSeals {
 }
 
 // A seal is accepted exactly if it is the signer's.
-pub fn keyed_seals_stand() -> u8
+pub fn keyed_seals_stand()
     ensures { KeyedLaw }
-{
-    0
-}
+{}

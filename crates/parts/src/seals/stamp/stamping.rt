@@ -3,7 +3,7 @@ ghost use Rattle.parts.specs.Stamp.{StampLaw, stamp, stamp_table};
 ghost use Rattle.std.proofs.Common.{rules, arith};
 
 use super::OpenStamp;
-use crate::seals::{Seals, is_seal};
+use crate::seals::{Seals, is_seal, is_signer};
 use wire::statement::Statement;
 
 // Mark, view, signer, and what fits of the name.
@@ -20,7 +20,7 @@ impl OpenStamp {
     pub fn new(own: u8) -> Option<Self>
         ensures { MatchOption result (16 ≤ own) (λ s. s.own ≡ own) }
     {
-        if own < 16 {
+        if is_signer(own) {
             Some(OpenStamp { own })
         } else {
             None
@@ -50,8 +50,6 @@ impl Seals for OpenStamp {
 }
 
 // A seal is accepted exactly if it is the stamp.
-pub fn stamps_stand() -> u8
+pub fn stamps_stand()
     ensures { StampLaw }
-{
-    0
-}
+{}
