@@ -1,5 +1,6 @@
 -- The laws of the assignment board.
 use Rattle.std.proofs.Common.{◌≡◌, ℕ, ◌<◌, ◌≤◌, Bool, true, false, cond, eqb, ◌⊎◌, List, length, get_or, set, is_some, Some, None, Option, sym, refl, ap, ◌∙◌, subst, inl, inr, ⊎_elim, arith}
+use Rattle.std.specs.Option.{option_eq}
 use Rattle.std.proofs.lemmas.List.{length-set, get_or-set_same, get_or-set_other, get_or_past}
 use Rattle.std.proofs.lemmas.Bool.{and_parts, not-true, cases_eq, cases_lt, both_ways, eqb-true, eqb-false, eq-eqb, ltb-true}
 use Rattle.std.proofs.lemmas.Bool.Decides.{nat_tests}
@@ -11,9 +12,9 @@ use Rattle.wire.specs.declared.order.Order.TheVariants.{Send, Release, Load}
 use Rattle.wire.specs.Format.{well_formed}
 use Rattle.boards.specs.declared.assignment.line.Line.{Line}
 use Rattle.boards.specs.declared.assignment.line.Change.{Change}
-use Rattle.boards.specs.Trucks.{Roster, assigned, change, effective, free_line, line_of, one_at, or_else, place_by, place_on, released, sent, truck_of, trucks_at, whereabouts, writing, written}
+use Rattle.boards.specs.Trucks.{Roster, assigned, change, effective, free_line, line_of, or_else, or_nowhere, place_by, place_on, released, sent, truck_of, trucks_at, whereabouts, writing, written}
 use Rattle.boards.specs.TruckLaws.{AssignmentTells, OneLineAtMost, LimitHolds, SentWithin, OneEach, OneEachStays, Arrives, Leaves}
-use Rattle.boards.proofs.Counting.{one_at_most, trucks_set_most}
+use Rattle.boards.proofs.Counting.{one_at, one_at_most, trucks_set_most}
 
 -- the truck on line i
 abbrev truck_at : List (Option Line) → ℕ → Option ℕ
@@ -62,6 +63,11 @@ seated_by lines truck i (Some k) e h =
     let own = e ∙ h in
     let f = line_found truck lines i own in
     record { inside = f.0; before = f.2; was = inl own }
+
+-- a place is never 0, so a truck is at it exactly if that is the place of its line
+pub stands_at : (o : Option ℕ) (place : ℕ) → 1 ≤ place → option_eq eqb o (Some place) ≡ eqb (or_nowhere o) place
+stands_at None place h = grind (arith, nat_tests)
+stands_at (Some p) place h = refl
 
 -- what an effective send tells
 record Sending (w : Roster) (truck place : ℕ) (c : Change) : Type 0 where
@@ -141,8 +147,8 @@ other_before w (Send truck place) c e =
           ⊎_elim
           (λ own.
           s.moves
-          (ap (λ (o : Option ℕ). place_by o w.lines) own ∙
-          (ap (λ (l : Option Line). place_on l) same ∙ ap (λ (l : Option Line). place_on l) s.line)))
+          (ap (λ (o : Option ℕ). or_nowhere (place_by o w.lines)) own ∙
+          (ap (λ (l : Option Line). or_nowhere (place_on l)) same ∙ ap (λ (l : Option Line). or_nowhere (place_on l)) s.line)))
           (λ new.
           some_not_none truck
           (sym (ap (λ (l : Option Line). shown truck_of l) s.line) ∙
@@ -280,7 +286,7 @@ arrives w truck place e =
           s.seated.before j l (sym (ap (λ (x : Option Line). shown truck_of x) (get_or-set_other w.lines c.at j c.line None n)) ∙ h),
     ) in
     ap (λ (x : List (Option Line)). whereabouts truck x) (assigned_some w (Send truck place) c f.1) ∙
-    (ap (λ (o : Option ℕ). place_by o ls) first ∙ ap (λ (l : Option Line). place_on l) here)
+    (ap (λ (o : Option ℕ). or_nowhere (place_by o ls)) first ∙ ap (λ (l : Option Line). or_nowhere (place_on l)) here)
 
 pub leaves : Leaves
 leaves w truck each e =

@@ -1,5 +1,6 @@
 -- The assignment board: where each truck is sent.
-use Rattle.std.specs.Prelude.{ℕ, ◌+◌, Bool, cond, not, ◌&&◌, List, [], ◌∷◌, is_some, Some, None, Option, ◌==◌, nat_eq, nat_lt, slice_index_or, slice_set}
+use Rattle.std.specs.Prelude.{ℕ, Bool, false, cond, not, ◌&&◌, List, is_some, Some, None, Option, ◌==◌, nat_eq, nat_lt, slice_index_or, slice_set}
+use Rattle.std.specs.List.{count_by}
 use Rattle.shelf.specs.Slots.{find, shown, vacant}
 use Rattle.wire.specs.Format.{well_formed}
 use Rattle.wire.specs.declared.order.Order.{Order}
@@ -32,27 +33,35 @@ or_else (Some i) o = Some i
 abbrev pub seat : ℕ → List (Option Line) → Option ℕ
 seat truck lines = or_else (line_of truck lines) (free_line lines)
 
--- the place on a line; 0, which is no place, on a free one
-abbrev pub place_on : Option Line → ℕ
-place_on None = 0
-place_on (Some l) = l.place
+-- the place on a line, unless it is free
+abbrev pub place_on : Option Line → Option ℕ
+place_on None = None
+place_on (Some l) = Some l.place
 
--- where a truck is; 0 if it has no line
-abbrev pub place_by : Option ℕ → List (Option Line) → ℕ
-place_by None lines = 0
+-- where a truck is, if it has a line
+abbrev pub place_by : Option ℕ → List (Option Line) → Option ℕ
+place_by None lines = None
 place_by (Some i) lines = place_on (slice_index_or lines i None)
 
+abbrev pub place_of : ℕ → List (Option Line) → Option ℕ
+place_of truck lines = place_by (line_of truck lines) lines
+
+-- where a truck is; 0, which is no place, if it has no line
+abbrev pub or_nowhere : Option ℕ → ℕ
+or_nowhere None = 0
+or_nowhere (Some place) = place
+
 abbrev pub whereabouts : ℕ → List (Option Line) → ℕ
-whereabouts truck lines = place_by (line_of truck lines) lines
+whereabouts truck lines = or_nowhere (place_of truck lines)
+
+-- is a truck on the line sent to the place?
+abbrev pub is_at : ℕ → Option Line → Bool
+is_at place None = false
+is_at place (Some l) = l.place == place
 
 -- how many trucks are at a place
-abbrev pub one_at : ℕ → Option Line → ℕ
-one_at place None = 0
-one_at place (Some l) = cond (l.place == place) 1 0
-
-unfoldable pub trucks_at : ℕ → List (Option Line) → ℕ
-trucks_at place [] = 0
-trucks_at place (l ∷ ls) = one_at place l + trucks_at place ls
+abbrev pub trucks_at : ℕ → List (Option Line) → ℕ
+trucks_at place lines = count_by (is_at place) lines
 
 -- the limit's rule: does the place take one more truck?
 abbrev pub takes_more : Roster → ℕ → Bool

@@ -1,7 +1,7 @@
 ghost use Rattle.std.specs.Prelude.{◌≡◌, length, replicate, None};
 ghost use Rattle.boards.specs.Seen.{seen};
 ghost use Rattle.boards.specs.TruckLaws.{Arrives, AssignmentTells, Leaves, LimitHolds, OneEachStays, OneLineAtMost, SentWithin};
-ghost use Rattle.boards.specs.Trucks.{Roster, assigned, change, effective, line_of, trucks_at, whereabouts};
+ghost use Rattle.boards.specs.Trucks.{Roster, assigned, change, effective, or_nowhere, place_of, whereabouts};
 
 use super::line::{Change, Line};
 use super::table::Table;
@@ -50,11 +50,12 @@ impl<'a> Assignment<'a> {
         Table::of(self.lines(), self.limit)
     }
 
-    // Where a truck is; 0 if it has no line.
-    pub fn whereabouts(&self, truck: u16) -> u16
-        ensures { result ≡ whereabouts truck self.now.table.slots.now }
+    // Where a truck is, if it has a line.
+    pub fn place_of(&self, truck: u16) -> Option<u16>
+        ensures place { result ≡ place_of truck self.now.table.slots.now }
+        ensures whereabouts { or_nowhere result ≡ whereabouts truck self.now.table.slots.now }
     {
-        self.table().whereabouts(truck)
+        self.table().place_of(truck)
     }
 
     // What an order changes, if anything.
@@ -84,26 +85,20 @@ impl Board for Assignment<'_> {
 }
 
 // The assignment board's answer is yes exactly if its state changed.
-pub fn assignment_tells() -> u8
+pub fn assignment_tells()
     ensures { AssignmentTells }
-{
-    0
-}
+{}
 
 // An order changes one line at most, lifts no place above the limit, and gives no truck a second line.
-pub fn assignment_keeps() -> u8
+pub fn assignment_keeps()
     ensures line { OneLineAtMost }
     ensures limit { LimitHolds }
     ensures within { SentWithin }
     ensures each { OneEachStays }
-{
-    0
-}
+{}
 
 // A truck that is sent arrives, and one that is released leaves the table.
-pub fn assignment_moves() -> u8
+pub fn assignment_moves()
     ensures arrives { Arrives }
     ensures leaves { Leaves }
-{
-    0
-}
+{}

@@ -1,7 +1,6 @@
-ghost use Rattle.std.specs.Prelude.{◌≡◌, length};
+ghost use Rattle.std.specs.Prelude.{◌≡◌, ◌≤◌};
 ghost use Rattle.boards.specs.Tables.{roster};
-ghost use Rattle.boards.specs.Trucks.{change, place_by, released, seat, sent, takes_more, trucks_at, whereabouts};
-ghost use Rattle.shelf.specs.Slots.{Inside};
+ghost use Rattle.boards.specs.Trucks.{change, or_nowhere, place_of, released, seat, sent, takes_more, whereabouts};
 
 use super::count::trucks_at;
 use super::line::{Change, Line};
@@ -15,20 +14,6 @@ pub struct Table<'a> {
     limit: u16,
 }
 
-// The place on a line that was found; 0 for none.
-fn place_by(found: Option<usize>, lines: &[Option<Line>]) -> u16
-    requires { Inside found lines.now }
-    ensures { result ≡ place_by found lines.now }
-{
-    let Some(at) = found else {
-        return 0;
-    };
-    match lines[at] {
-        Some(line) => line.place,
-        None => 0,
-    }
-}
-
 impl<'a> Table<'a> {
     pub fn of(lines: &'a [Option<Line>], limit: u16) -> Self
         ensures lines { result.lines.now ≡ lines.now }
@@ -37,21 +22,20 @@ impl<'a> Table<'a> {
         Table { lines, limit }
     }
 
-    // Where a truck is; 0 if it has no line.
-    pub fn whereabouts(&self, truck: u16) -> u16
-        ensures { result ≡ whereabouts truck self.now.lines.now }
+    // Where a truck is, if it has a line.
+    pub fn place_of(&self, truck: u16) -> Option<u16>
+        ensures place { result ≡ place_of truck self.now.lines.now }
+        ensures whereabouts { or_nowhere result ≡ whereabouts truck self.now.lines.now }
     {
-        place_by(find(self.lines, &truck), self.lines)
+        let line = self.lines[find(self.lines, &truck)?]?;
+        Some(line.place)
     }
 
     // The line that a truck keeps or takes.
     fn seat(&self, truck: u16) -> Option<usize>
         ensures { result ≡ seat truck self.now.lines.now }
     {
-        match find(self.lines, &truck) {
-            Some(own) => Some(own),
-            None => vacant(self.lines),
-        }
+        find(self.lines, &truck).or_else(|| vacant(self.lines))
     }
 
     // Whether a place takes one more truck.
@@ -61,11 +45,13 @@ impl<'a> Table<'a> {
         trucks_at(self.lines, place) < self.limit as usize
     }
 
-    // What sending a truck changes.
+    // What sending a truck to a place changes.
+    #[tactic(auto, using(crate::proofs::Assigning::stands_at), unfolding(crate::specs::Trucks::sent))]
     fn sent(&self, truck: u16, place: u16) -> Option<Change>
+        requires { 1 ≤ place }
         ensures { result ≡ sent (roster self.now) truck place }
     {
-        if self.whereabouts(truck) == place || !self.takes_more(place) {
+        if self.place_of(truck) == Some(place) || !self.takes_more(place) {
             return None;
         }
         let at = self.seat(truck)?;
@@ -76,6 +62,7 @@ impl<'a> Table<'a> {
     }
 
     // What releasing a truck changes.
+    #[tactic(auto, unfolding(crate::specs::Trucks::released))]
     fn released(&self, truck: u16) -> Option<Change>
         ensures { result ≡ released (roster self.now) truck }
     {
@@ -84,6 +71,7 @@ impl<'a> Table<'a> {
     }
 
     // What an order changes, if anything.
+    #[tactic(auto, unfolding(crate::specs::Trucks::change))]
     pub fn change(&self, order: &Order) -> Option<Change>
         ensures { result ≡ change (roster self.now) order.now }
     {
