@@ -1,7 +1,9 @@
 -- Bytes from pairs of digits.
-use Rattle.std.proofs.Common.{◌≡◌, ℕ, ◌+◌, ◌*◌, ◌/◌, ◌%◌, ◌<◌, List, [], ◌∷◌, ◌++◌, length, get_or, take, drop, sym, refl, ap, ◌∙◌, subst, append-nil, arith}
-use Rattle.std.proofs.lemmas.List.{drop_more, take_more}
+use Rattle.std.proofs.Common.{◌≡◌, ℕ, zero, suc, ◌+◌, ◌*◌, ◌/◌, ◌%◌, ◌<◌, List, [], ◌∷◌, ◌++◌, length, get_or, take, drop, sym, refl, ap, ◌∙◌, subst, append-nil, Some, None, Option, MatchOption, arith}
+use Rattle.std.proofs.lemmas.List.{drop_more, take_more, get_or-take, get_or-drop}
 use Rattle.std.proofs.lemmas.Bool.Decides.{nat_tests}
+use Rattle.std.proofs.lemmas.Option.{MatchOption-at_some, MatchOption-at_none}
+use Rattle.std.specs.Simd.{first_chunks}
 use Rattle.text.specs.Hexadecimal.{hex_digit, hex_pairs, hex_written, Bytes, NoPairs, HexLaw}
 
 same_digit : (m n : ℕ) → m < 16 → n < 16 → hex_digit m ≡ hex_digit n → m ≡ n
@@ -50,6 +52,19 @@ none_pair : (high low : ℕ) (rest : List ℕ) → ((b : ℕ) → b < 256 → he
 none_pair high low rest none [] p e = let z : ◌≡◌ {A = ℕ} 0 1 = cc in omega arith
 none_pair high low rest none (b ∷ bs) p e = none b p.0 (cc) (cc)
 
+chunk_at : (n k : ℕ) (xs : List ℕ) (i j : ℕ) → i < k → j < n → get_or (get_or (first_chunks n k xs) i []) j 0 ≡ get_or xs (n * i + j) 0
+chunk_at n zero xs i j within at = absurd (omega arith)
+chunk_at n (suc k) xs zero j within at = let place : n * 0 + j ≡ j = omega arith in rw place (get_or-take n xs j 0 at)
+chunk_at n (suc k) xs (suc i) j within at =
+    let rest = chunk_at n k (drop n xs) i j (omega arith) at in
+    let here = get_or-drop n xs (n * i + j) 0 in
+    let place : n + (n * i + j) ≡ n * suc i + j = omega arith in
+    rw (← place) (rest ∙ here)
+
+-- The digits of a pair are those at its place.
+pub pair_at : (pairs : List (List ℕ)) (digits : List ℕ) (k i : ℕ) → pairs ≡ first_chunks 2 k digits → i < k → (get_or (get_or pairs i []) 0 0 ≡ get_or digits (2 * i) 0) × (get_or (get_or pairs i []) 1 0 ≡ get_or digits (2 * i + 1) 0)
+pair_at pairs digits k i e within = rw e (let place : 2 * i + 0 ≡ 2 * i = omega arith in rw (← place) (chunk_at 2 k digits i 0 within (omega arith)), chunk_at 2 k digits i 1 within (omega arith))
+
 -- The reader's loop: vs are read from the digits before place 2 i.
 module _ (vs digits : List ℕ) (i : ℕ) (below : i < length digits / 2) (read : hex_pairs vs ++ drop (2 * i) digits ≡ digits) where
   next_two : drop (2 * i) digits ≡ get_or digits (2 * i) 0 ∷ get_or digits (2 * i + 1) 0 ∷ drop (2 * (i + 1)) digits
@@ -71,6 +86,19 @@ module _ (vs digits : List ℕ) (i : ℕ) (below : i < length digits / 2) (read 
   none_next none =
       let P : List ℕ → Type 0 = NoPairs in
       subst P read (none_after vs (drop (2 * i) digits) (subst P (sym next_two) (none_pair _ _ _ none)))
+
+  module _ (pairs : List (List ℕ)) (cut : pairs ≡ first_chunks 2 (length digits / 2) digits) (r : Option ℕ) (answer : MatchOption r ((b : ℕ) → b < 256 → hex_digit (b / 16) ≡ get_or (get_or pairs i []) 0 0 → hex_digit (b % 16) ≡ get_or (get_or pairs i []) 1 0 → ⊥) (λ b. (b < 256) × (hex_digit (b / 16) ≡ get_or (get_or pairs i []) 0 0) × (hex_digit (b % 16) ≡ get_or (get_or pairs i []) 1 0))) where
+    pub pair_next : (b : ℕ) → r ≡ Some b → (b < 256) × (hex_pairs (vs ++ b ∷ []) ++ drop (2 * (i + 1)) digits ≡ digits)
+    pair_next b is =
+        let here = pair_at pairs digits (length digits / 2) i cut below in
+        let byte = MatchOption-at_some _ _ b is answer in
+        (byte.0, pairs_next b (byte.1 ∙ here.0) (byte.2 ∙ here.1))
+
+    pub pair_none : r ≡ None → NoPairs digits
+    pair_none is =
+        let here = pair_at pairs digits (length digits / 2) i cut below in
+        let none = MatchOption-at_none _ _ is answer in
+        none_next (λ b under high low. none b under (high ∙ sym here.0) (low ∙ sym here.1))
 
 pub dash : (field : List ℕ) → length field ≡ 1 → get_or field 0 0 ≡ 45 → hex_written [] ≡ field
 dash [] one here = absurd (omega arith)

@@ -24,7 +24,7 @@ Numeral ds = (0 < length ds) × Digits ds
 abbrev pub NumberRead : List ℕ → ℕ → Result ℕ NumberError → Type 0
 NumberRead field highest (Ok n) = Numeral field × (value field ≡ n) × (n ≤ highest)
 NumberRead field highest (Err NotDigits) = Numeral field → ⊥
-NumberRead field highest (Err Above) = Numeral field × (highest < value field)
+NumberRead field highest (Err (Above bound)) = (bound ≡ highest) × Numeral field × (highest < value field)
 
 -- what is written of a number (its digits with no leading zero, `decimal n`) is a numeral and reads back as it
 abbrev pub DecimalLaw : Type 0

@@ -1,7 +1,9 @@
 // The fields of a line, one after another.
-ghost use Rattle.std.specs.Prelude.{◌≡◌, ℕ, ◌+◌, ◌<◌, ◌≤◌, [], ◌∷◌, length, MatchResult, ◌≢◌, slice_index};
+ghost use Rattle.std.specs.Prelude.{◌≡◌, ℕ, List, [], ◌∷◌, ◌<◌, ◌≢◌, length, slice_index, MatchOption, MatchResult};
 ghost use Rattle.std.specs.Option.{option_map};
 ghost use Rattle.text.specs.Splitting.{split, left, none_left, Took, TookNone, Leaves, SplitLaw};
+
+use std::marker::Model;
 
 // Why a line gives no field.
 #[derive(Clone, Copy, PartialEq, Eq, Debug)]
@@ -11,54 +13,48 @@ pub enum FieldError {
     TooMany,
 }
 
-// What is left of a line; nothing once its last field is taken.
-#[derive(Clone, Copy)]
+// What is left of a line; nothing once its last field is taken. Contracts see the fields that are left.
+#[derive(Drop)]
 pub struct Fields<'a> {
     rest: Option<&'a [u8]>,
 }
 
-// The index of the first space, or the line's length where there is none.
-fn first_space(line: &[u8]) -> usize
-    ensures within { result ≤ length line.now }
-    ensures before { (k : ℕ) → k < result → slice_index line.now k ≢ 32 }
-    ensures found { result < length line.now → slice_index line.now result ≡ 32 }
+impl<'a> Model for Fields<'a> {
+    ghost Value = { List (List ℕ) };
+
+    ghost view = { λ f. left (option_map (λ x. x.now) f.rest) };
+}
+
+// The place of the first space, if there is one.
+fn first_space(line: &[u8]) -> Option<usize>
+    ensures { MatchOption result ((k : ℕ) → k < length line.now → slice_index line.now k ≢ 32) (λ i. (i < length line.now) × ((k : ℕ) → k < i → slice_index line.now k ≢ 32) × (slice_index line.now i ≡ 32)) }
 {
-    for (i, c) in line.iter().enumerate() {
-        if *c == b' ' {
-            return i;
-        }
-    }
-    line.len()
+    line.iter().position(|c| *c == b' ')
 }
 
 // A line as its first field and what follows the space after it, if one does.
 fn cut(line: &[u8]) -> (&[u8], Option<&[u8]>)
     ensures { split line.now ≡ result.0.now ∷ left (option_map (λ x. x.now) result.1) }
 {
-    let end = first_space(line);
-    if end < line.len() {
-        (&line[0..end], Some(&line[end + 1..]))
-    } else {
-        (line, None)
+    match first_space(line) {
+        Some(end) => (&line[..end], Some(&line[end + 1..])),
+        None => (line, None),
     }
 }
 
 impl<'a> Fields<'a> {
     // All the fields of a line.
     pub fn of(line: &'a [u8]) -> Fields<'a>
-        ensures { left (option_map (λ x. x.now) result.rest) ≡ split line.now }
+        ensures { result ≡ split line.now }
     {
         Fields { rest: Some(line) }
     }
 
     // Takes the next field, which may not be empty.
     pub fn next(&mut self) -> Result<&'a [u8], FieldError>
-        ensures { MatchResult result (λ f. Took (left (option_map (λ x. x.now) self.old.rest)) f.now (left (option_map (λ x. x.now) self.new.rest))) (TookNone (left (option_map (λ x. x.now) self.old.rest)) (left (option_map (λ x. x.now) self.new.rest))) }
+        ensures { MatchResult result (λ f. Took self.old f.now self.new) (TookNone self.old self.new) }
     {
-        let Some(line) = self.rest else {
-            return Err(FieldError::Missing);
-        };
-        let (field, rest) = cut(line);
+        let (field, rest) = cut(self.rest.ok_or(FieldError::Missing)?);
         self.rest = rest;
         if field.is_empty() {
             Err(FieldError::Empty)
@@ -69,17 +65,14 @@ impl<'a> Fields<'a> {
 
     // Whether every field is taken.
     pub fn is_empty(&self) -> bool
-        ensures { result ≡ none_left (left (option_map (λ x. x.now) self.now.rest)) }
+        ensures { result ≡ none_left self.now }
     {
-        match self.rest {
-            Some(_) => false,
-            None => true,
-        }
+        self.rest.is_none()
     }
 
     // Whether every field is taken, as an error if one is left.
     pub fn end(mut self) -> Result<(), FieldError>
-        ensures { MatchResult result (λ _. left (option_map (λ x. x.now) self.entry.rest) ≡ []) (Leaves (left (option_map (λ x. x.now) self.entry.rest))) }
+        ensures { MatchResult result (λ _. self.entry ≡ []) (Leaves self.entry) }
     {
         match self.next() {
             Ok(_) => Err(FieldError::TooMany),
@@ -90,8 +83,6 @@ impl<'a> Fields<'a> {
 }
 
 // Joined by single spaces, the fields of a line are the line.
-pub fn law_of_fields() -> u8
+pub fn law_of_fields()
     ensures { SplitLaw }
-{
-    0
-}
+{}

@@ -1,10 +1,10 @@
 // Bytes as lowercase hexadecimal; `-` stands for no bytes.
 ghost use Rattle.std.specs.Prelude.{◌≡◌, ℕ, ◌/◌, ◌%◌, ◌<◌, [], ◌∷◌, Some, MatchOption, MatchResult, ◌≢◌};
 ghost use Rattle.std.specs.Fmt.{WritesOnOk};
-ghost use Rattle.text.specs.declared.hex.HexError.TheVariants.{NotHex};
+ghost use Rattle.text.specs.declared.hex.HexError.TheVariants.{NotHex, NoMemory};
 ghost use Rattle.text.specs.Hexadecimal.{hex_digit, hex_pairs, hex_written, Bytes, NoPairs, HexReads, HexRefused, HexLaw};
 
-use std::alloc::Global;
+use std::alloc::{AllocFailed, Global};
 use std::fmt;
 
 // Why a field gives no bytes.
@@ -12,6 +12,14 @@ use std::fmt;
 pub enum HexError {
     NotHex,
     NoMemory,
+}
+
+impl<T: Drop> From<AllocFailed<T>> for HexError {
+    ghost from_gives = { λ _ e. e ≡ NoMemory };
+
+    fn from(_e: AllocFailed<T>) -> HexError {
+        HexError::NoMemory
+    }
 }
 
 // The number below sixteen that has this digit, if one has it.
@@ -33,49 +41,36 @@ fn byte(high: u8, low: u8) -> Option<u8>
 }
 
 // Reads pairs of digits.
-fn read_pairs(heap: Global, digits: &[u8]) -> Result<Vec<u8>, HexError>
+fn read_pairs(alloc: Global, digits: &[u8]) -> Result<Vec<u8>, HexError>
     ensures { MatchResult result (λ v. Bytes v.items × (hex_pairs v.items ≡ digits.now)) (λ e. e ≡ NotHex → NoPairs digits.now) }
 {
-    if digits.len() % 2 != 0 {
+    let (pairs, rest) = digits.as_chunks::<2>();
+    if !rest.is_empty() {
         return Err(HexError::NotHex);
     }
-    let mut bytes = Vec::new(heap);
-    for i in 0..digits.len() / 2 {
-        let Some(b) = byte(digits[2 * i], digits[2 * i + 1]) else {
-            return Err(HexError::NotHex);
-        };
-        if bytes.push(b).is_err() {
-            return Err(HexError::NoMemory);
-        }
+    let mut bytes = Vec::new(alloc);
+    for [high, low] in pairs {
+        bytes.push(byte(*high, *low).ok_or(HexError::NotHex)?)?;
     }
     Ok(bytes)
 }
 
 // Reads a field of bytes.
-pub fn read_hex(heap: Global, field: &[u8]) -> Result<Vec<u8>, HexError>
+pub fn read_hex(alloc: Global, field: &[u8]) -> Result<Vec<u8>, HexError>
     ensures { MatchResult result (λ v. HexReads field.now v.items) (HexRefused field.now) }
 {
     match field {
         [] => Err(HexError::NotHex),
-        b"-" => Ok(Vec::new(heap)),
-        _ => read_pairs(heap, field),
+        b"-" => Ok(Vec::new(alloc)),
+        _ => read_pairs(alloc, field),
     }
-}
-
-// The digit of a number below sixteen.
-fn digit(n: u8) -> char
-    requires { n < 16 }
-    ensures { result ≡ hex_digit n }
-{
-    char::from(if n < 10 { b'0' + n } else { b'a' - 10 + n })
 }
 
 // Writes the two digits of a byte.
 fn write_byte<W: fmt::Write>(f: &mut fmt::Formatter<W>, b: u8) -> fmt::Result
     ensures { WritesOnOk W.write_str_gives f.old result (hex_digit (b / 16) ∷ hex_digit (b % 16) ∷ []) f.new }
 {
-    f.write_char(digit(b / 16))?;
-    f.write_char(digit(b % 16))
+    write!(f, "{b:02x}")
 }
 
 // Writes the digits of the bytes.
@@ -105,8 +100,6 @@ impl fmt::Display for Hex<'_> {
 }
 
 // Bytes of one field are the same bytes.
-pub fn law_of_hexadecimal() -> u8
+pub fn law_of_hexadecimal()
     ensures { HexLaw }
-{
-    0
-}
+{}

@@ -1,29 +1,40 @@
-use Rattle.std.proofs.Common.{◌≡◌, ◌*◌, ◌<◌, ◌≤◌, [], ◌∷◌, ◌++◌, length, vec_items, append-nil, arith}
+use Rattle.std.proofs.Common.{◌≡◌, ◌*◌, ◌/◌, ◌%◌, ◌<◌, ◌≤◌, length, vec_items, append-nil, arith}
 use Rattle.std.proofs.lemmas.Bool.Decides.{nat_tests}
 use Rattle.std.proofs.ByRecursion.{All-push}
 use Rattle.std.proofs.lemmas.List.{drop_all}
+use Rattle.std.proofs.lemmas.Result.{err_from_is_err_and}
 use Rattle.text.specs.Hexadecimal.{hex_pairs}
-use Rattle.text.proofs.Pairs.{none_odd, pairs_next, none_next}
+use Rattle.text.proofs.Pairs.{none_odd, pair_next, pair_none}
 use Rattle.text.proofs.hex.read_pairs.Goals as goal
 
-pub returns-then-digits-ne0 : goal.returns-then-digits-ne0
-returns-then-digits-ne0 c = λ _. none_odd c.args.digits.now (omega arith)
+pub returns-then-not-is_empty : goal.returns-then-not-is_empty
+returns-then-not-is_empty c = λ _.
+    let e = c.is_empty.ensures in
+    let h : length c.as_chunks.result.1.now ≡ length c.args.digits.now % 2 = c.as_chunks.ensures.back_len in
+    let t = c.if-not-is_empty.true in
+    none_odd c.args.digits.now (grind (arith, nat_tests))
 
-pub returns-in_default : goal.returns-in_default
-returns-in_default c =
-    λ _. none_next (vec_items c.loop-i.bytes) c.args.digits.now c.loop-i.i (omega arith) c.loop-i.invariant.1 c.in_default.ensures
+pub returns-in_err-ok_or : goal.returns-in_err-ok_or
+returns-in_err-ok_or c =
+    let p = err_from_is_err_and c.from_residual.result c.from_residual.ensures.1 in
+    let size : length c.as_chunks.result.0.now ≡ length c.args.digits.now / 2 = c.as_chunks.ensures.front_len in
+    rw (p.1)
+    λ _. pair_none (vec_items c.loop-high.bytes) c.args.digits.now c.loop-high.high-index (omega arith) c.loop-high.invariant.1 c.as_chunks.result.0.now c.as_chunks.ensures.front c.byte.result c.byte.ensures (grind arith)
 
-pub loop-i-preserved : goal.loop-i-preserved
-loop-i-preserved c =
-    let byte = c.in-Some.ensures in
-    let test = c.if-is_err.ensures in
-    let added : vec_items c.push.new.self ≡ vec_items c.loop-i.bytes ++ c.in-Some.b ∷ [] = grind (arith, nat_tests) in
-    rw added (All-push (λ b. b < 256) _ _ c.loop-i.invariant.0 byte.0, pairs_next (vec_items c.loop-i.bytes) c.args.digits.now c.loop-i.i (omega arith) c.loop-i.invariant.1 c.in-Some.b byte.1 byte.2)
+pub loop-high-preserved : goal.loop-high-preserved
+loop-high-preserved c =
+    let size : length c.as_chunks.result.0.now ≡ length c.args.digits.now / 2 = c.as_chunks.ensures.front_len in
+    let pushed = c.in_ok-push.ensures.items in
+    let next = pair_next (vec_items c.loop-high.bytes) c.args.digits.now c.loop-high.high-index (omega arith) c.loop-high.invariant.1 c.as_chunks.result.0.now c.as_chunks.ensures.front c.byte.result c.byte.ensures c.in_ok-ok_or.field-0 (grind arith) in
+    rw pushed (All-push (λ b. b < 256) _ _ c.loop-high.invariant.0 next.0, next.1)
 
 pub returns : goal.returns
 returns c =
-    let end : length c.args.digits.now ≤ 2 * c.loop-i.i = omega arith in
-    let none = drop_all (2 * c.loop-i.i) c.args.digits.now end in
-    let whole = c.loop-i.invariant.1 in
-    let left = append-nil (hex_pairs (vec_items c.loop-i.bytes)) in
-    (c.loop-i.invariant.0, cc)
+    let odd : length c.as_chunks.result.1.now ≡ length c.args.digits.now % 2 = c.as_chunks.ensures.back_len in
+    let size : length c.as_chunks.result.0.now ≡ length c.args.digits.now / 2 = c.as_chunks.ensures.front_len in
+    let test = c.is_empty.ensures in
+    let end : length c.args.digits.now ≤ 2 * c.loop-high.high-index = grind (arith, nat_tests) in
+    let none = drop_all (2 * c.loop-high.high-index) c.args.digits.now end in
+    let whole = c.loop-high.invariant.1 in
+    let left = append-nil (hex_pairs (vec_items c.loop-high.bytes)) in
+    (c.loop-high.invariant.0, cc)
