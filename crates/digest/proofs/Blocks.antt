@@ -1,6 +1,6 @@
 -- A message in parts: the hash value after the parts.
 use Rattle.std.proofs.Common.{◌≡◌, ℕ, zero, suc, ◌+◌, ◌-◌, ◌*◌, ◌/◌, ◌%◌, ◌^◌, ◌≤◌, List, ◌∷◌, ◌++◌, length, take, drop, replicate, refl, ap, ◌∙◌, add-suc, arith}
-use Rattle.std.proofs.lemmas.List.{append_assoc, drop_all, drop-append-le, drop-drop, length-append, length-drop, take_all, take-append-le, take_rest}
+use Rattle.std.proofs.lemmas.List.{append_assoc, drop_all, drop-append-le, drop-drop, length-append, length-drop, take_all, take-append-le}
 use Rattle.digest.specs.declared.state.State.{State}
 use Rattle.digest.specs.Sha256.{absorb, compress, digest, eight_bytes, ending, finished, initial, state_bytes, zeros}
 
@@ -56,18 +56,16 @@ digest_block p m h =
     cc
 
 -- the code's way: whole blocks from the message, and then the buffer with the rest and what ends it
-pub finish_is : (v s1 s2 : State) (before bits end : ℕ) (m rest last out : List ℕ) → before % 64 ≡ 0 → rest ≡ take (length m - length m / 64 * 64) (drop (length m / 64 * 64) m) → bits ≡ (before + length m) % 2 ^ 64 * 8 % 2 ^ 64 → take (length rest + 9 + zeros (length rest)) last ≡ rest ++ 128 ∷ (replicate (zeros (length rest)) 0 ++ eight_bytes bits) → s1 ≡ absorb (length m / 64) v m → end ≡ length rest + 9 + zeros (length rest) → s2 ≡ absorb (length (take (end - 0) last) / 64) s1 (take (end - 0) last) → out ≡ state_bytes s2 → out ≡ finished v (m ++ ending (before + length m))
+pub finish_is : (v s1 s2 : State) (before bits end : ℕ) (m rest last out : List ℕ) → before % 64 ≡ 0 → rest ≡ drop (length m / 64 * 64) m → bits ≡ (before + length m) % 2 ^ 64 * 8 % 2 ^ 64 → take (length rest + 9 + zeros (length rest)) last ≡ rest ++ 128 ∷ (replicate (zeros (length rest)) 0 ++ eight_bytes bits) → s1 ≡ absorb (length m / 64) v m → end ≡ length rest + 9 + zeros (length rest) → s2 ≡ absorb (length (take end last) / 64) s1 (take end last) → out ≡ state_bytes s2 → out ≡ finished v (m ++ ending (before + length m))
 unfolding finished
 finish_is v s1 s2 before bits end m rest last out b r w t a e f o =
     let q : ℕ = length m / 64 in
     let k : length m / 64 * 64 ≡ 64 * q = omega arith in
-    let whole = take_rest m (length m / 64 * 64) in
     let rest-is : rest ≡ drop (64 * q) m = cc in
     let l : length rest ≡ length m - 64 * q = ap length rest-is ∙ length-drop (64 * q) m in
     let n : (before + length m) % 64 ≡ length rest % 64 = omega arith in
     let bits_is : bits ≡ 8 * (before + length m) % 2 ^ 64 = omega arith in
     let ends = ending_is (before + length m) (length rest) bits n bits_is in
-    let end_is : end - 0 ≡ length rest + 9 + zeros (length rest) = omega arith in
     let all = absorb_rest q v m (ending (before + length m)) (omega arith) in
     cc
 

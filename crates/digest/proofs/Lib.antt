@@ -1,3 +1,4 @@
+pub mod Arrays
 pub mod Blocks
 pub mod KeyBlocks
 pub mod Padding

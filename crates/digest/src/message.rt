@@ -1,54 +1,48 @@
 // A whole message: its blocks, its padding and its digest.
 ghost use Rattle.std.specs.Prelude.{◌≡◌, ℕ, ◌+◌, ◌-◌, ◌*◌, ◌/◌, ◌%◌, ◌<◌, ◌≤◌, List, ◌∷◌, ◌++◌, length, take, drop, replicate};
+ghost use Rattle.std.specs.Simd.{first_chunks};
 ghost use Rattle.digest.specs.Sha256.{absorb, compress, initial, ending, zeros, eight_bytes, state_bytes, finished, digest};
 
-use crate::rounds::compress;
 use crate::state::State;
 
-pub fn initial() -> State
-    ensures { result ≡ initial }
-{
-    State {
-        a: 0x6a09e667,
-        b: 0xbb67ae85,
-        c: 0x3c6ef372,
-        d: 0xa54ff53a,
-        e: 0x510e527f,
-        f: 0x9b05688c,
-        g: 0x1f83d9ab,
-        h: 0x5be0cd19,
+impl State {
+    /// The hash value before the first block.
+    pub fn initial() -> State
+        ensures { result ≡ initial }
+    {
+        State {
+            a: 0x6a09e667,
+            b: 0xbb67ae85,
+            c: 0x3c6ef372,
+            d: 0xa54ff53a,
+            e: 0x510e527f,
+            f: 0x9b05688c,
+            g: 0x1f83d9ab,
+            h: 0x5be0cd19,
+        }
     }
-}
 
-// Writes `part` into `buffer` from `at` on.
-fn put(buffer: &mut [u8], at: usize, part: &[u8])
-    requires { at + length part.now ≤ length buffer.old }
-    ensures { buffer.new ≡ take at buffer.old ++ (part.now ++ drop (at + length part.now) buffer.old) }
-{
-    buffer[at..at + part.len()].copy_from_slice(part);
-}
-
-// The hash value after all whole blocks of `bytes`.
-fn absorb(start: State, bytes: &[u8]) -> State
-    ensures { result ≡ absorb (length bytes.now / 64) start bytes.now }
-{
-    let mut v = start;
-    for i in 0..bytes.len() / 64 {
-        v = compress(v, &bytes[64 * i..64 * i + 64]);
+    // The hash value after these blocks.
+    fn absorb(self, blocks: &[[u8; 64]]) -> State
+        ensures { (bytes : List ℕ) → blocks.now ≡ first_chunks 64 (length blocks.now) bytes → result ≡ absorb (length blocks.now) self bytes }
+    {
+        let mut v = self;
+        for block in blocks {
+            v = v.compress(block);
+        }
+        v
     }
-    v
-}
 
-// The hash value as bytes.
-fn state_bytes(v: State) -> [u8; 32]
-    ensures { result ≡ state_bytes v }
-{
-    let words = [v.a, v.b, v.c, v.d, v.e, v.f, v.g, v.h];
-    let mut bytes = [0; 32];
-    for i in 0..8usize {
-        put(&mut bytes, 4 * i, &words[i].to_be_bytes());
+    fn bytes(self) -> [u8; 32]
+        ensures { result ≡ state_bytes self }
+    {
+        let words = [
+            self.a, self.b, self.c, self.d, self.e, self.f, self.g, self.h,
+        ];
+        let mut bytes = [0; 32];
+        bytes.copy_from_slice(words.map(u32::to_be_bytes).as_flattened());
+        bytes
     }
-    bytes
 }
 
 // How long the last n bytes of a message, less than a block, are with what ends them: 64 or 128.
@@ -56,7 +50,7 @@ fn tail_len(n: usize) -> usize
     requires { n < 64 }
     ensures { result ≡ n + 9 + zeros n }
 {
-    n + 9 + (119 - n) % 64
+    if n < 56 { 64 } else { 128 }
 }
 
 // The rest of a message, less than a block, with what ends it.
@@ -65,9 +59,10 @@ fn tail(rest: &[u8], bits: u64) -> [u8; 128]
     ensures { take (length rest.now + 9 + zeros (length rest.now)) result ≡ rest.now ++ 128 ∷ (replicate (zeros (length rest.now)) 0 ++ eight_bytes bits) }
 {
     let mut bytes = [0; 128];
-    put(&mut bytes, 0, rest);
+    bytes[..rest.len()].copy_from_slice(rest);
     bytes[rest.len()] = 128;
-    put(&mut bytes, tail_len(rest.len()) - 8, &bits.to_be_bytes());
+    let end = tail_len(rest.len());
+    bytes[end - 8..end].copy_from_slice(&bits.to_be_bytes());
     bytes
 }
 
@@ -79,16 +74,16 @@ pub fn finish(v: State, before: u64, message: &[u8]) -> [u8; 32]
     ensures first { before ≡ 0 → v ≡ initial → result ≡ digest message.now }
     ensures later { (block : List ℕ) → before ≡ 64 → length block ≡ 64 → v ≡ compress initial block → result ≡ digest (block ++ message.now) }
 {
-    let rest = &message[message.len() / 64 * 64..];
+    let (blocks, rest) = message.as_chunks::<64>();
     let bits = before.wrapping_add(message.len() as u64).wrapping_mul(8);
     let last = tail(rest, bits);
-    let whole = absorb(v, message);
-    state_bytes(absorb(whole, &last[0..tail_len(rest.len())]))
+    let (ending, _) = last[..tail_len(rest.len())].as_chunks::<64>();
+    v.absorb(blocks).absorb(ending).bytes()
 }
 
 /// The SHA-256 digest of a message.
 pub fn sha256(message: &[u8]) -> [u8; 32]
     ensures { result ≡ digest message.now }
 {
-    finish(initial(), 0, message)
+    finish(State::initial(), 0, message)
 }

@@ -1,9 +1,11 @@
 // One block: its schedule, its 64 rounds, and the next hash value.
-ghost use Rattle.std.specs.Prelude.{◌≡◌, ℕ, ◌+◌, ◌<◌, ◌≤◌, List, length, take, slice_index};
+ghost use Rattle.std.specs.Prelude.{◌≡◌, ℕ, ◌+◌, ◌<◌, ◌≤◌, List, take, drop, bit_xor};
+ghost use Rattle.std.specs.Int.{rotate_right, w32};
 ghost use Rattle.digest.specs.declared.state.State.{State};
-ghost use Rattle.digest.specs.Sha256.{Ch, Maj, big_sigma0, big_sigma1, sigma0, sigma1, K, round, rounds, schedule, compress, block_word, mixed_word, summed};
+ghost use Rattle.digest.specs.Sha256.{shr, Ch, Maj, K, round, rounds, schedule, compress, mixed_word, summed};
 
 use crate::state::State;
+use std::array;
 
 static ROUND_CONSTANTS: [u32; 64] = [
     0x428a2f98, 0x71374491, 0xb5c0fbcf, 0xe9b5dba5, 0x3956c25b, 0x59f111f1, 0x923f82a4, 0xab1c5ed5,
@@ -15,13 +17,6 @@ static ROUND_CONSTANTS: [u32; 64] = [
     0x19a4c116, 0x1e376c08, 0x2748774c, 0x34b0bcb5, 0x391c0cb3, 0x4ed8aa4a, 0x5b9cca4f, 0x682e6ff3,
     0x748f82ee, 0x78a5636f, 0x84c87814, 0x8cc70208, 0x90befffa, 0xa4506ceb, 0xbef9a3f7, 0xc67178f2,
 ];
-
-fn constant(t: usize) -> u32
-    requires { t < 64 }
-    ensures { result ≡ slice_index K t }
-{
-    ROUND_CONSTANTS[t]
-}
 
 fn choose(x: u32, y: u32, z: u32) -> u32
     ensures { result ≡ Ch x y z }
@@ -35,154 +30,129 @@ fn majority(x: u32, y: u32, z: u32) -> u32
     (x & y) ^ (x & z) ^ (y & z)
 }
 
-fn big_sigma0(x: u32) -> u32
-    ensures { result ≡ big_sigma0 x }
+// The standard's functions with a capital sigma: three rotations to the right.
+fn big_sigma<const A: u32, const B: u32, const C: u32>(x: u32) -> u32
+    ensures { result ≡ bit_xor (bit_xor (rotate_right w32 x A) (rotate_right w32 x B)) (rotate_right w32 x C) }
 {
-    x.rotate_right(2) ^ x.rotate_right(13) ^ x.rotate_right(22)
+    x.rotate_right(A) ^ x.rotate_right(B) ^ x.rotate_right(C)
 }
 
-fn big_sigma1(x: u32) -> u32
-    ensures { result ≡ big_sigma1 x }
+// Its functions with a small sigma: two rotations and a shift to the right.
+fn small_sigma<const A: u32, const B: u32, const C: u32>(x: u32) -> u32
+    requires { C < 32 }
+    ensures { result ≡ bit_xor (bit_xor (rotate_right w32 x A) (rotate_right w32 x B)) (shr C x) }
 {
-    x.rotate_right(6) ^ x.rotate_right(11) ^ x.rotate_right(25)
+    x.rotate_right(A) ^ x.rotate_right(B) ^ (x >> C)
 }
 
-fn sigma0(x: u32) -> u32
-    ensures { result ≡ sigma0 x }
-{
-    x.rotate_right(7) ^ x.rotate_right(18) ^ (x >> 3)
-}
-
-fn sigma1(x: u32) -> u32
-    ensures { result ≡ sigma1 x }
-{
-    x.rotate_right(17) ^ x.rotate_right(19) ^ (x >> 10)
-}
-
-fn round(v: State, k: u32, w: u32) -> State
-    ensures { result ≡ round v k w }
-{
-    let t1 = v
-        .h
-        .wrapping_add(big_sigma1(v.e))
-        .wrapping_add(choose(v.e, v.f, v.g))
-        .wrapping_add(k)
-        .wrapping_add(w);
-    let t2 = big_sigma0(v.a).wrapping_add(majority(v.a, v.b, v.c));
-    State {
-        a: t1.wrapping_add(t2),
-        b: v.a,
-        c: v.b,
-        d: v.c,
-        e: v.d.wrapping_add(t1),
-        f: v.e,
-        g: v.f,
-        h: v.g,
+impl State {
+    fn round(self, k: u32, w: u32) -> State
+        ensures { result ≡ round self k w }
+    {
+        let t1 = self
+            .h
+            .wrapping_add(big_sigma::<6, 11, 25>(self.e))
+            .wrapping_add(choose(self.e, self.f, self.g))
+            .wrapping_add(k)
+            .wrapping_add(w);
+        let t2 = big_sigma::<2, 13, 22>(self.a).wrapping_add(majority(self.a, self.b, self.c));
+        State {
+            a: t1.wrapping_add(t2),
+            b: self.a,
+            c: self.b,
+            d: self.c,
+            e: self.d.wrapping_add(t1),
+            f: self.e,
+            g: self.f,
+            h: self.g,
+        }
     }
-}
 
-// Round t of 64.
-fn round_at(v: State, ws: &[u32; 64], t: usize) -> State
-    requires { t < 64 }
-    ensures { (s : State) → v ≡ rounds t s ws.now → result ≡ rounds (t + 1) s ws.now }
-{
-    round(v, constant(t), ws[t])
-}
-
-// Eight rounds from round t: after them each variable is back in its register.
-fn eight_rounds(v: State, ws: &[u32; 64], t: usize) -> State
-    requires { t ≤ 56 }
-    ensures { (s : State) → v ≡ rounds t s ws.now → result ≡ rounds (t + 8) s ws.now }
-{
-    let v1 = round_at(v, ws, t);
-    let v2 = round_at(v1, ws, t + 1);
-    let v3 = round_at(v2, ws, t + 2);
-    let v4 = round_at(v3, ws, t + 3);
-    let v5 = round_at(v4, ws, t + 4);
-    let v6 = round_at(v5, ws, t + 5);
-    let v7 = round_at(v6, ws, t + 6);
-    round_at(v7, ws, t + 7)
-}
-
-fn all_rounds(start: State, ws: &[u32; 64]) -> State
-    ensures { result ≡ rounds 64 start ws.now }
-{
-    let mut v = start;
-    for i in 0..8usize {
-        v = eight_rounds(v, ws, 8 * i);
+    // Eight rounds: after them each variable is back in its register.
+    // Stays: the calls written out, since a loop over the constants and the words takes a quarter more instructions.
+    fn eight_rounds(self, ks: &[u32; 8], ws: &[u32; 8]) -> State
+        ensures { (t : ℕ) (s : State) (words : List ℕ) → self ≡ rounds t s words → ks.now ≡ take 8 (drop t K) → ws.now ≡ take 8 (drop t words) → result ≡ rounds (t + 8) s words }
+    {
+        self.round(ks[0], ws[0])
+            .round(ks[1], ws[1])
+            .round(ks[2], ws[2])
+            .round(ks[3], ws[3])
+            .round(ks[4], ws[4])
+            .round(ks[5], ws[5])
+            .round(ks[6], ws[6])
+            .round(ks[7], ws[7])
     }
-    v
-}
 
-fn block_word(block: &[u8], t: usize) -> u32
-    requires { (t < 16) × (length block.now ≡ 64) }
-    ensures { result ≡ block_word block.now t }
-{
-    u32::from_be_bytes([
-        block[4 * t],
-        block[4 * t + 1],
-        block[4 * t + 2],
-        block[4 * t + 3],
-    ])
+    // The 64 rounds, each with its constant and its word.
+    fn all_rounds(self, ws: &[u32; 64]) -> State
+        ensures { result ≡ rounds 64 self ws.now }
+    {
+        let (constants, _) = ROUND_CONSTANTS.as_chunks::<8>();
+        let (words, _) = ws.as_chunks::<8>();
+        let mut v = self;
+        for (ks, ws) in constants.iter().zip(words) {
+            v = v.eight_rounds(ks, ws);
+        }
+        v
+    }
+
+    // Each word with that of `other` added.
+    fn plus(self, other: State) -> State
+        ensures { result ≡ summed self other }
+    {
+        State {
+            a: self.a.wrapping_add(other.a),
+            b: self.b.wrapping_add(other.b),
+            c: self.c.wrapping_add(other.c),
+            d: self.d.wrapping_add(other.d),
+            e: self.e.wrapping_add(other.e),
+            f: self.f.wrapping_add(other.f),
+            g: self.g.wrapping_add(other.g),
+            h: self.h.wrapping_add(other.h),
+        }
+    }
+
+    /// The next hash value, after one block.
+    pub fn compress(self, block: &[u8; 64]) -> State
+        ensures { result ≡ compress self block.now }
+    {
+        self.all_rounds(&schedule(block)).plus(self)
+    }
 }
 
 fn mixed_word(ws: &[u32; 64], t: usize) -> u32
     requires { (16 ≤ t) × (t < 64) }
     ensures { result ≡ mixed_word ws.now t }
 {
-    sigma1(ws[t - 2])
+    small_sigma::<17, 19, 10>(ws[t - 2])
         .wrapping_add(ws[t - 7])
-        .wrapping_add(sigma0(ws[t - 15]))
+        .wrapping_add(small_sigma::<7, 18, 3>(ws[t - 15]))
         .wrapping_add(ws[t - 16])
 }
 
-// The first 16 words, which stand in the block.
-fn load(ws: &mut [u32; 64], block: &[u8])
-    requires { length block.now ≡ 64 }
-    ensures { take 16 ws.new ≡ schedule block.now 16 }
+// The words of a block: 16 from its bytes, and 48 made of those before them.
+fn schedule(block: &[u8; 64]) -> [u32; 64]
+    ensures { result ≡ schedule block.now 64 }
 {
-    for t in 0..16usize {
-        ws[t] = block_word(block, t);
-    }
+    let mut ws = [0; 64];
+    ws[..16].copy_from_slice(&block_words(block));
+    extend(&mut ws);
+    ws
+}
+
+fn block_words(block: &[u8; 64]) -> [u32; 16]
+    ensures { result ≡ schedule block.now 16 }
+{
+    let (words, _) = block.as_chunks::<4>();
+    array::from_fn(|t| u32::from_be_bytes(words[t]))
 }
 
 // The other 48 words.
+// Stays: the loop over places, since each word is made of the words at four places before it.
 fn extend(ws: &mut [u32; 64])
     ensures { (block : List ℕ) → take 16 ws.old ≡ schedule block 16 → ws.new ≡ schedule block 64 }
 {
     for t in 16..64usize {
         ws[t] = mixed_word(ws, t);
     }
-}
-
-fn schedule(block: &[u8]) -> [u32; 64]
-    requires { length block.now ≡ 64 }
-    ensures { result ≡ schedule block.now 64 }
-{
-    let mut ws = [0; 64];
-    load(&mut ws, block);
-    extend(&mut ws);
-    ws
-}
-
-fn summed(x: State, y: State) -> State
-    ensures { result ≡ summed x y }
-{
-    State {
-        a: x.a.wrapping_add(y.a),
-        b: x.b.wrapping_add(y.b),
-        c: x.c.wrapping_add(y.c),
-        d: x.d.wrapping_add(y.d),
-        e: x.e.wrapping_add(y.e),
-        f: x.f.wrapping_add(y.f),
-        g: x.g.wrapping_add(y.g),
-        h: x.h.wrapping_add(y.h),
-    }
-}
-
-pub fn compress(v: State, block: &[u8]) -> State
-    requires { length block.now ≡ 64 }
-    ensures { result ≡ compress v block.now }
-{
-    summed(all_rounds(v, &schedule(block)), v)
 }

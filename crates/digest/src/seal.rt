@@ -7,8 +7,8 @@ fn differing(a: &[u8; 16], b: &[u8; 16]) -> u8
     ensures same { a.now ≡ b.now → result ≡ 0 }
 {
     let mut bits = 0;
-    for i in 0..16usize {
-        bits |= a[i] ^ b[i];
+    for (x, y) in a.iter().zip(b) {
+        bits |= x ^ y;
     }
     bits
 }

@@ -5,4 +5,5 @@ use Rattle.digest.proofs.examples.examples_stand.Goals as goal
 
 pub returns : goal.returns
 unfolding K absorb compress digest ending finished initial round rounds schedule state_bytes hmac key_block
-returns c = record { digests = (refl, refl, refl); tags = (refl, refl, refl) }
+returns c =
+    record { empty_message = refl; one_block = refl; two_blocks = refl; short_key = refl; filled_key = refl; long_key = refl }

@@ -1,5 +1,5 @@
 use Rattle.digest.specs.Sha256.{compress}
-use Rattle.digest.proofs.rounds.compress.Goals as goal
+use Rattle.digest.proofs.state.State.compress.Goals as goal
 
 pub returns : goal.returns
 unfolding compress

@@ -1,5 +1,5 @@
 use Rattle.digest.specs.Sha256.{round}
-use Rattle.digest.proofs.rounds.round.Goals as goal
+use Rattle.digest.proofs.state.State.round.Goals as goal
 
 pub returns : goal.returns
 unfolding round

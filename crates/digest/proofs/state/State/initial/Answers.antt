@@ -1,6 +1,6 @@
 use Rattle.std.proofs.Common.{refl}
 use Rattle.digest.specs.Sha256.{initial}
-use Rattle.digest.proofs.message.initial.Goals as goal
+use Rattle.digest.proofs.state.State.initial.Goals as goal
 
 pub returns : goal.returns
 unfolding initial

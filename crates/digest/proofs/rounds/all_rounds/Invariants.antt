@@ -1,6 +1,0 @@
-use Rattle.std.proofs.Common.{◌≡◌, ◌*◌}
-use Rattle.digest.specs.Sha256.{rounds}
-use Rattle.digest.proofs.rounds.all_rounds.Given as goal
-
-abbrev pub invariant-loop-i : goal.invariant-loop-i
-invariant-loop-i l = l.v ≡ rounds (8 * l.i) l.initial.v l.ws
