@@ -1,5 +1,5 @@
 use Rattle.std.proofs.Common.{arith, length-set}
-use Rattle.digest.proofs.Steps.{schedule-all, schedule_step, word_mixed}
+use Rattle.digest.proofs.Steps.{schedule_step, word_mixed}
 use Rattle.digest.proofs.rounds.extend.Goals as goal
 
 pub loop-t-preserved : goal.loop-t-preserved
@@ -9,6 +9,3 @@ loop-t-preserved c = (
       schedule_step _ _ _ _ (omega arith) (word_mixed _ _ _ _ (omega arith) c.mixed_word.ensures)
       (c.loop-t.invariant.1 block e),
 )
-
-pub returns : goal.returns
-returns c = λ block e. schedule-all block _ _ (omega arith) c.loop-t.invariant.0 (c.loop-t.invariant.1 block e)

@@ -1,4 +1,4 @@
-use Rattle.std.proofs.Common.{◌≡◌, length, refl, arith}
+use Rattle.std.proofs.Common.{length, refl}
 use Rattle.digest.specs.Sha256.{absorb}
 use Rattle.digest.proofs.Arrays.{chunk_at}
 use Rattle.digest.proofs.Steps.{absorb_more}
@@ -13,10 +13,4 @@ loop-block-preserved c = λ bytes e.
     let b = chunk_at 64 (length c.args.blocks.now) c.loop-block.block-index bytes c.loop-block-test.true in
     let m = absorb_more c.loop-block.block-index c.args.self bytes in
     let v = c.loop-block.invariant bytes e in
-    cc
-
-pub returns : goal.returns
-returns c = λ bytes e.
-    let v = c.loop-block.invariant bytes e in
-    let n : c.loop-block.block-index ≡ length c.args.blocks.now = omega arith in
     cc
