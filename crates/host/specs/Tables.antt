@@ -1,7 +1,9 @@
 -- An assignment board that owns its table.
 use Rattle.std.specs.Prelude.{vec_items}
+use Rattle.boards.specs.Seen.{seen}
 use Rattle.boards.specs.Trucks.{Roster}
-use Rattle.host.specs.declared.table.AssignmentTable.{AssignmentTable}
+use Rattle.boards.specs.declared.assignment.board.Assignment.{Assignment}
+use Rattle.host.specs.declared.table.OwnLines.{OwnLines}
 
-abbrev pub roster_of : AssignmentTable → Roster
-roster_of b = record { limit = b.limit; lines = vec_items b.lines }
+abbrev pub roster_of : Assignment OwnLines → Roster
+roster_of b = seen (λ t. vec_items t.lines) b

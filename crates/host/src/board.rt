@@ -7,6 +7,7 @@ use parts::board::Board;
 use wire::order::Order;
 
 // An assignment board or a tonnage board.
+// Stays: each board has a world of its own kind, and a box would not say which, where the enum gives their sum.
 #[derive(Drop)]
 pub enum EitherBoard {
     Assignment(AssignmentTable),

@@ -8,6 +8,7 @@ use parts::seals::stamp::OpenStamp;
 use wire::statement::Statement;
 
 // Keyed seals or open stamps.
+// Stays: there are two kinds and both are known, and a box needs an allocator and is no longer `Copy`.
 #[derive(Clone, Copy)]
 pub enum EitherSeals {
     Keyed(KeyedSeals),

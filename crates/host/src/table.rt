@@ -1,52 +1,41 @@
-ghost use Rattle.std.specs.Prelude.{◌≡◌, replicate, IfOk, None};
-ghost use Rattle.boards.specs.Trucks.{Roster, assigned, effective};
+ghost use Rattle.std.specs.Prelude.{◌≡◌, replicate, IfOk, None, vec_items};
 ghost use Rattle.host.specs.Tables.{roster_of};
 
+use boards::assignment::board::Assignment;
 use boards::assignment::line::Line;
-use boards::assignment::table::Table;
-use parts::board::Board;
+use boards::assignment::lines::Lines;
 use shelf::slots::replace;
 use std::alloc::{AllocError, Global};
-use wire::order::Order;
 
-// An assignment board with a table of its own.
+// A table of lines that its board owns.
 #[derive(Drop)]
-pub struct AssignmentTable {
+pub struct OwnLines {
     lines: Vec<Option<Line>>,
-    limit: u16,
 }
 
-impl AssignmentTable {
-    // A board of so many lines, all free.
-    pub fn new(heap: Global, lines: u16, limit: u16) -> Result<Self, AllocError>
-        ensures { IfOk result (λ b. roster_of b ≡ record { limit = limit; lines = replicate lines None }) }
-    {
-        let lines = vec![in heap; None; lines as usize]?;
-        Ok(AssignmentTable { lines, limit })
-    }
+impl Lines for OwnLines {
+    ghost items = { λ t. vec_items t.lines };
 
-    // The lines, to be read.
-    pub fn lines(&self) -> &[Option<Line>]
-        ensures { result.now ≡ (roster_of self.now).lines }
-    {
+    fn lines(&self) -> &[Option<Line>] {
         self.lines.as_slice()
     }
+
+    fn replace(&mut self, at: usize, line: Option<Line>) {
+        replace(self.lines.as_mut_slice(), at, line);
+    }
 }
 
-impl Board for AssignmentTable {
-    ghost World = { Roster };
+// An assignment board with a table of its own.
+pub type AssignmentTable = Assignment<OwnLines>;
 
-    ghost world = { roster_of };
-
-    ghost rule = { assigned };
-
-    ghost effect = { effective };
-
-    fn take(&mut self, order: &Order) -> bool {
-        let Some(found) = Table::of(self.lines.as_slice(), self.limit).change(order) else {
-            return false;
-        };
-        replace(self.lines.as_mut_slice(), found.at, found.line);
-        true
-    }
+// A board of so many lines, all free.
+pub fn assignment_table(
+    alloc: Global,
+    lines: u16,
+    limit: u16,
+) -> Result<AssignmentTable, AllocError>
+    ensures { IfOk result (λ b. roster_of b ≡ record { limit = limit; lines = replicate lines None }) }
+{
+    let lines = vec![in alloc; None; lines as usize]?;
+    Ok(Assignment::over(OwnLines { lines }, limit))
 }

@@ -4,19 +4,20 @@ ghost use Rattle.boards.specs.TruckLaws.{Arrives, AssignmentTells, Leaves, Limit
 ghost use Rattle.boards.specs.Trucks.{Roster, assigned, change, effective, or_nowhere, place_of, whereabouts};
 
 use super::line::{Change, Line};
+use super::lines::Lines;
 use super::table::Table;
 use parts::board::Board;
 use shelf::shelf::Shelf;
 use wire::order::Order;
 
-// Where the trucks are sent: one line a truck, in a table that the host lends.
+// Where the trucks are sent: one line a truck, in a table that the host lends or that the board owns.
 #[derive(Drop)]
-pub struct Assignment<'a> {
-    table: Shelf<'a, Option<Line>>,
+pub struct Assignment<L> {
+    table: L,
     limit: u16,
 }
 
-impl<'a> Assignment<'a> {
+impl<'a> Assignment<Shelf<'a, Option<Line>>> {
     // A board with no truck on it; the table is emptied.
     pub fn new(lines: &'a mut [Option<Line>], limit: u16) -> Self
         ensures lines { result.table.slots.now ≡ replicate (length lines.old) None }
@@ -25,14 +26,24 @@ impl<'a> Assignment<'a> {
     {
         let mut table = Shelf::over(lines);
         table.clear_all();
+        Self::over(table, limit)
+    }
+}
+
+impl<L: Lines> Assignment<L> {
+    // The board of a table as it stands.
+    pub fn over(table: L, limit: u16) -> Self
+        ensures table { result.table ≡ table }
+        ensures limit { result.limit ≡ limit }
+    {
         Assignment { table, limit }
     }
 
     // The lines of the table, to be read.
     pub fn lines(&self) -> &[Option<Line>]
-        ensures { result.now ≡ self.now.table.slots.now }
+        ensures { result.now ≡ L.items self.now.table }
     {
-        self.table.slots()
+        self.table.lines()
     }
 
     // How many trucks a place may have.
@@ -44,7 +55,7 @@ impl<'a> Assignment<'a> {
 
     // The table, to be read with its limit.
     fn table(&self) -> Table<'_>
-        ensures lines { result.lines.now ≡ self.now.table.slots.now }
+        ensures lines { result.lines.now ≡ L.items self.now.table }
         ensures limit { result.limit ≡ self.now.limit }
     {
         Table::of(self.lines(), self.limit)
@@ -52,24 +63,24 @@ impl<'a> Assignment<'a> {
 
     // Where a truck is, if it has a line.
     pub fn place_of(&self, truck: u16) -> Option<u16>
-        ensures place { result ≡ place_of truck self.now.table.slots.now }
-        ensures whereabouts { or_nowhere result ≡ whereabouts truck self.now.table.slots.now }
+        ensures place { result ≡ place_of truck (L.items self.now.table) }
+        ensures whereabouts { or_nowhere result ≡ whereabouts truck (L.items self.now.table) }
     {
         self.table().place_of(truck)
     }
 
     // What an order changes, if anything.
     fn change(&self, order: &Order) -> Option<Change>
-        ensures { result ≡ change (seen self.now) order.now }
+        ensures { result ≡ change (seen L.items self.now) order.now }
     {
         self.table().change(order)
     }
 }
 
-impl Board for Assignment<'_> {
+impl<L: Lines> Board for Assignment<L> {
     ghost World = { Roster };
 
-    ghost world = { seen };
+    ghost world = { seen L.items };
 
     ghost rule = { assigned };
 
