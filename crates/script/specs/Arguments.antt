@@ -1,16 +1,9 @@
 -- The fields after the word of a line: what is left of them before and after one is taken.
 use Rattle.std.specs.Prelude.{◌≡◌, ℕ, ◌≤◌, List, ◌∷◌, length, Result, MatchResult}
-use Rattle.std.specs.Option.{option_map}
 use Rattle.text.specs.Hexadecimal.{hex_written, Bytes}
 use Rattle.text.specs.Decimal.{Numeral, value}
-use Rattle.text.specs.Splitting.{left}
-use Rattle.text.specs.declared.fields.Fields.{Fields}
 use Rattle.script.specs.Faults.{Refutes}
 use Rattle.script.specs.declared.fault.Fault.{Fault}
-
--- the fields that a reader has before it
-abbrev pub fields_of : Fields → List (List ℕ)
-fields_of reader = left (option_map (λ x. x.now) reader.rest)
 
 -- the first field is written from these bytes
 abbrev pub HasBytes : List (List ℕ) → List ℕ → List (List ℕ) → Type 0
@@ -18,6 +11,10 @@ HasBytes before bs after = Bytes bs × (before ≡ hex_written bs ∷ after)
 
 abbrev pub HasKey : List (List ℕ) → List ℕ → List (List ℕ) → Type 0
 HasKey before key after = (length key ≡ 32) × HasBytes before key after
+
+-- the field is a numeral of n, which is at most the highest
+abbrev pub Denotes : ℕ → List ℕ → ℕ → Type 0
+Denotes highest field n = Numeral field × (value field ≡ n) × (n ≤ highest)
 
 -- the first field is a numeral of n, which is at most the highest
 pub record HasNumber (highest : ℕ) (before : List (List ℕ)) (n : ℕ) (after : List (List ℕ)) : Type 0 where

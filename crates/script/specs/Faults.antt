@@ -5,6 +5,8 @@ use Rattle.text.specs.declared.fields.FieldError.{FieldError}
 use Rattle.text.specs.declared.fields.FieldError.TheVariants.{Missing, Empty, TooMany}
 use Rattle.text.specs.declared.hex.HexError.{HexError}
 use Rattle.text.specs.declared.hex.HexError.TheVariants as hex
+use Rattle.text.specs.declared.number.NumberError.{NumberError}
+use Rattle.text.specs.declared.number.NumberError.TheVariants as number
 use Rattle.script.specs.declared.fault.Fault.{Fault}
 use Rattle.script.specs.declared.fault.Fault.TheVariants.{UnknownWord, MissingField, SpaceTooMany, TooManyFields, NotHex, KeyLength, NotANumber, Above, Below, NoMemory}
 
@@ -16,6 +18,10 @@ of_field TooMany = TooManyFields
 abbrev pub of_hex : HexError → Fault
 of_hex hex.NotHex = NotHex
 of_hex hex.NoMemory = NoMemory
+
+abbrev pub of_number : NumberError → Fault
+of_number number.NotDigits = NotANumber
+of_number (number.Above highest) = Above highest
 
 -- no reading of the kind P exists, unless memory failed, which says nothing
 abbrev pub Refutes : Fault → Type 0 → Type 0

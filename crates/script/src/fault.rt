@@ -1,10 +1,13 @@
 // Why a line cannot be read.
 ghost use Rattle.std.specs.Prelude.{◌≡◌, Some};
-ghost use Rattle.script.specs.Faults.{of_field, of_hex, told};
+ghost use Rattle.script.specs.declared.fault.Fault.TheVariants.{NoMemory};
+ghost use Rattle.script.specs.Faults.{of_field, of_hex, of_number, told};
 
+use std::alloc::{AllocError, AllocFailed};
 use std::fmt;
 use text::fields::FieldError;
 use text::hex::HexError;
+use text::number::NumberError;
 use text::printable::Printable;
 
 #[derive(Clone, Copy)]
@@ -41,6 +44,33 @@ impl<'a> From<HexError> for Fault<'a> {
             HexError::NotHex => Fault::NotHex,
             HexError::NoMemory => Fault::NoMemory,
         }
+    }
+}
+
+impl<'a> From<NumberError> for Fault<'a> {
+    ghost from_gives = { λ e r. r ≡ of_number e };
+
+    fn from(e: NumberError) -> Fault<'a> {
+        match e {
+            NumberError::NotDigits => Fault::NotANumber,
+            NumberError::Above(highest) => Fault::Above(highest),
+        }
+    }
+}
+
+impl<'a> From<AllocError> for Fault<'a> {
+    ghost from_gives = { λ _ r. r ≡ NoMemory };
+
+    fn from(_e: AllocError) -> Fault<'a> {
+        Fault::NoMemory
+    }
+}
+
+impl<'a, T: Drop> From<AllocFailed<T>> for Fault<'a> {
+    ghost from_gives = { λ _ r. r ≡ NoMemory };
+
+    fn from(refused: AllocFailed<T>) -> Fault<'a> {
+        Fault::from(AllocError::from(refused))
     }
 }
 

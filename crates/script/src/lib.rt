@@ -5,5 +5,6 @@ pub mod arguments;
 pub mod command;
 pub mod fault;
 pub mod lines;
+mod marked;
+pub mod number;
 pub mod orders;
-pub mod word;

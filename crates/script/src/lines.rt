@@ -19,12 +19,7 @@ pub fn without_newline(line: &[u8]) -> &[u8]
 fn is_blank(line: &[u8]) -> bool
     ensures { Decides result (Blank line.now) }
 {
-    for c in line {
-        if *c != b' ' {
-            return false;
-        }
-    }
-    true
+    line.iter().all(|c| *c == b' ')
 }
 
 fn is_comment(line: &[u8]) -> bool
@@ -41,16 +36,13 @@ pub fn is_passed_over(line: &[u8]) -> bool
 }
 
 // Reads a line; nothing is asked by one that is blank or a comment.
-pub fn read_line<'a>(heap: Global, line: &'a [u8]) -> Result<Option<Command>, Fault<'a>>
+pub fn read_line<'a>(alloc: Global, line: &'a [u8]) -> Result<Option<Command>, Fault<'a>>
     ensures { LineReads line.now result }
 {
     if is_passed_over(line) {
         return Ok(None);
     }
-    match parse(heap, line) {
-        Ok(command) => Ok(Some(command)),
-        Err(fault) => Err(fault),
-    }
+    Ok(Some(parse(alloc, line)?))
 }
 
 #[cfg(test)]

@@ -1,6 +1,4 @@
 use Rattle.std.proofs.Common.{ℕ, List, vec_items, refl, subst}
-use Rattle.std.specs.Option.{option_map}
-use Rattle.text.specs.Splitting.{left}
 use Rattle.std.proofs.lemmas.Result.{err_from_is_err_and}
 use Rattle.script.specs.OrderFields.{HasOrders}
 use Rattle.script.proofs.OrderLists.{same_board}
@@ -12,7 +10,7 @@ returns-in_err-orders c =
     rw (p.1, p.2)
     (λ memory other.
     let said = other.1 in
-    let same = same_board (left (option_map (λ x. x.now) c.args.fields.rest)) said.0 c.in_ok-board.board _ _ said.4 c.in_ok-board.ensures in
+    let same = same_board c.args.fields said.0 c.in_ok-board.board _ _ said.4 c.in_ok-board.ensures in
     c.in_err-orders.ensures memory (vec_items said.1, subst (λ (l : List (List ℕ)). HasOrders l (vec_items said.1)) same said.5))
 
 pub returns : goal.returns

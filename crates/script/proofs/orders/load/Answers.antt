@@ -1,7 +1,7 @@
 use Rattle.std.proofs.Common.{ℕ, List, subst}
 use Rattle.std.proofs.lemmas.Result.{err_from_is_err_and}
 use Rattle.script.specs.Arguments.{HasShort}
-use Rattle.script.specs.OrderFields.{HasLast}
+use Rattle.script.specs.OrderFields.{HasLast, marked}
 use Rattle.script.proofs.OrderLists.{same_rest}
 use Rattle.script.proofs.orders.load.Goals as goal
 
@@ -30,4 +30,4 @@ returns-in_err-amount c =
     let said = other.2 in
     let first = same_rest c.in_ok-truck.ensures said.6 in
     let second = same_rest c.in_ok-place.ensures (subst (λ (l : List (List ℕ)). HasShort l said.1 said.4) first said.7) in
-    c.in_err-amount.ensures memory ((said.2, other.0.1), other.1, subst (λ (l : List (List ℕ)). HasLast l (said.2, other.0.1) other.1) second said.8))
+    c.in_err-amount.ensures memory (marked said.2 other.0.more, other.1, subst (λ (l : List (List ℕ)). HasLast l (marked said.2 other.0.more) other.1) second said.8))

@@ -1,11 +1,9 @@
 use Rattle.std.proofs.Common.{length, vec_items}
-use Rattle.std.specs.Option.{option_map}
-use Rattle.text.specs.Splitting.{left}
 use Rattle.script.proofs.OrderLists.{Taken}
 use Rattle.script.proofs.orders.orders.Given as goal
 
-abbrev pub invariant-loop-due : goal.invariant-loop-due
-invariant-loop-due l = Taken l.initial.due (left (option_map (λ x. x.now) l.initial.fields.rest)) (vec_items l.orders) l.due (left (option_map (λ x. x.now) l.fields.rest))
+abbrev pub invariant-loop-more : goal.invariant-loop-more
+invariant-loop-more l = Taken l.initial.more l.initial.fields (vec_items l.orders) l.more l.fields
 
-abbrev pub decreases-loop-due : goal.decreases-loop-due
-decreases-loop-due l = length (left (option_map (λ x. x.now) l.fields.rest))
+abbrev pub decreases-loop-more : goal.decreases-loop-more
+decreases-loop-more l = length l.fields

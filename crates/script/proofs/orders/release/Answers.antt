@@ -1,4 +1,5 @@
 use Rattle.std.proofs.lemmas.Result.{err_from_is_err_and}
+use Rattle.script.specs.OrderFields.{marked}
 use Rattle.script.proofs.orders.release.Goals as goal
 
 pub returns-in_err-truck : goal.returns-in_err-truck
@@ -7,4 +8,4 @@ returns-in_err-truck c =
     rw (p.1, p.2)
     (λ memory other.
     let said = other.2 in
-    c.in_err-truck.ensures memory ((said.0, other.0.1), other.1, said.2))
+    c.in_err-truck.ensures memory (marked said.0 other.0.more, other.1, said.2))

@@ -1,6 +1,6 @@
 use Rattle.std.proofs.Common.{ℕ, List, subst}
 use Rattle.std.proofs.lemmas.Result.{err_from_is_err_and}
-use Rattle.script.specs.OrderFields.{HasLast}
+use Rattle.script.specs.OrderFields.{HasLast, marked}
 use Rattle.script.proofs.OrderLists.{same_rest}
 use Rattle.script.proofs.orders.send.Goals as goal
 
@@ -19,4 +19,4 @@ returns-in_err-place c =
     (λ memory other.
     let said = other.2 in
     let same = same_rest c.in_ok-truck.ensures said.4 in
-    c.in_err-place.ensures memory ((said.1, other.0.1), other.1, subst (λ (l : List (List ℕ)). HasLast l (said.1, other.0.1) other.1) same said.5))
+    c.in_err-place.ensures memory (marked said.1 other.0.more, other.1, subst (λ (l : List (List ℕ)). HasLast l (marked said.1 other.0.more) other.1) same said.5))
