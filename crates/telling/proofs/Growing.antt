@@ -1,27 +1,25 @@
 -- Text that grows by one item a turn.
-use Rattle.std.proofs.Common.{◌≡◌, ℕ, zero, suc, ◌+◌, ◌*◌, ◌/◌, ◌%◌, ◌^◌, ◌<◌, ◌≤◌, Bool, true, false, cond, List, [], ◌∷◌, ◌++◌, map, length, get_or, take, IfOk, Ok, Err, Result, sym, refl, ◌∙◌, append_assoc, append-nil, map-id, mod-lt, mod-eq_of_lt, zero-mul, add-one, one-add, arith, lit<}
+use Rattle.std.proofs.Common.{◌≡◌, ℕ, zero, suc, ◌+◌, ◌*◌, ◌/◌, ◌%◌, ◌^◌, ◌<◌, Bool, true, false, cond, List, [], ◌∷◌, ◌++◌, map, IfOk, Ok, Err, Result, sym, refl, ◌∙◌, append-nil, map-id, mod-lt, mod-eq_of_lt, zero-mul, add-one, one-add, arith, lit<}
 use native.Mathlib.Nat.{mod-one}
 use borrow.Author.Tests.{eqb-false}
 use lib.Pow.{mod-pow-add}
 use Rattle.std.specs.List.{range_with_len}
+use Rattle.std.specs.Fmt.{IsPlainFormatter, HasWritten}
+use Rattle.std.specs.declared.fmt.Formatter.{Formatter}
+use Rattle.std.proofs.Output.{has_written_of_eq, writes_in_calls_nil}
 use Rattle.std.proofs.lemmas.List.FromFn.{filter_of_map_range_with_len_more}
-use Rattle.std.proofs.lemmas.List.{flat_map_more, map_more, map_push, take_all}
-use Rattle.std.proofs.lemmas.Result.{IfOk-weaker}
+use Rattle.std.proofs.lemmas.List.{flat_map_more, map_push}
 use Rattle.wire.specs.Format.{signed}
 use Rattle.telling.specs.Lists.{led, or_dash, passing}
 
+-- nothing is written
+pub nothing_written : {W : Type 0} (took : W → List ℕ → W → Type 0) (f : Formatter W) (bs : List ℕ) → bs ≡ [] → IsPlainFormatter f → HasWritten took f bs f
+nothing_written took f bs none plain =
+    has_written_of_eq took f [] bs f (sym none) (record { wrote = writes_in_calls_nil took f.writer; plain = plain })
+
 -- one item more
-led_more : (by start was now : List ℕ) (items : List (List ℕ)) (item : List ℕ) → was ≡ start ++ led by items → now ≡ was ++ (by ++ item) → now ≡ start ++ led by (items ++ item ∷ [])
-led_more by start was now items item before added =
-    let more = flat_map_more (λ (i : List ℕ). by ++ i) start items item in cc
-
--- one element more of a list
-pub told_more : {X : Type 0} (by : List ℕ) (f : X → List ℕ) (start was now : List ℕ) (xs : List X) (i : ℕ) (x : X) → i < length xs → was ≡ start ++ led by (map f (take i xs)) → now ≡ was ++ (by ++ f (get_or xs i x)) → now ≡ start ++ led by (map f (take (i + 1) xs))
-told_more by f start was now xs i x below before added =
-    rw (map_more f xs i x below) (led_more by start was now (map f (take i xs)) (f (get_or xs i x)) before added)
-
-pub told-all : {X : Type 0} (by : List ℕ) (f : X → List ℕ) (start now : List ℕ) (xs : List X) (i : ℕ) → length xs ≤ i → now ≡ start ++ led by (map f (take i xs)) → now ≡ start ++ led by (map f xs)
-told-all by f start now xs i past before = let all = take_all i xs past in rw all at before
+led_more : (by : List ℕ) (items : List (List ℕ)) (item : List ℕ) → led by items ++ (by ++ item) ≡ led by (items ++ item ∷ [])
+led_more by items item = flat_map_more (λ (i : List ℕ). by ++ i) [] items item
 
 -- the numbers that pass, one more looked at
 passing_more : (test : ℕ → Bool) (a n j : ℕ) → a + n ≡ j → passing test a (n + 1) ≡ passing test a n ++ cond (test j) (j ∷ []) []
@@ -34,17 +32,16 @@ unfolding passing
 passing_none test a = refl
 
 module _ (by : List ℕ) (f : ℕ → List ℕ) (test : ℕ → Bool) (a : ℕ) where
-  pub passed_none : (start : List ℕ) → start ≡ start ++ led by (map f (passing test a 0))
-  passed_none start = rw (passing_none, append-nil)
+  pub passed_none : led by (map f (passing test a 0)) ≡ []
+  passed_none = rw passing_none
 
-  passed_by : (start was now ps : List ℕ) (j : ℕ) (b : Bool) → was ≡ start ++ led by (map f ps) → now ≡ was ++ cond b (by ++ f j) [] → now ≡ start ++ led by (map f (ps ++ cond b (j ∷ []) []))
-  passed_by start was now ps j true before added = rw (map_push f ps j) (led_more by start was now (map f ps) (f j) before added)
-  passed_by start was now ps j false before added = rw (append-nil, added, append-nil) before
+  passed_by : (ps : List ℕ) (j : ℕ) (b : Bool) → led by (map f ps) ++ cond b (by ++ f j) [] ≡ led by (map f (ps ++ cond b (j ∷ []) []))
+  passed_by ps j true = rw (map_push f ps j) (led_more by (map f ps) (f j))
+  passed_by ps j false = rw (append-nil (led by (map f ps)), append-nil ps)
 
   -- a number that passes adds itself, another one nothing
-  pub passed_more : (start was now : List ℕ) (n j : ℕ) → a + n ≡ j → was ≡ start ++ led by (map f (passing test a n)) → now ≡ was ++ cond (test j) (by ++ f j) [] → now ≡ start ++ led by (map f (passing test a (n + 1)))
-  passed_more start was now n j e before added =
-      rw (passing_more test a n j e) (passed_by start was now (passing test a n) j (test j) before added)
+  pub passed_more : (n j : ℕ) → a + n ≡ j → led by (map f (passing test a n)) ++ cond (test j) (by ++ f j) [] ≡ led by (map f (passing test a (n + 1)))
+  passed_more n j e = rw (passing_more test a n j e) (passed_by (passing test a n) j (test j))
 
 parts_none : {X : Type 0} (xs ys : List X) → xs ++ ys ≡ [] → (xs ≡ []) × (ys ≡ [])
 parts_none [] ys e = (refl, e)
@@ -86,14 +83,6 @@ some_consoles set f fits some =
 pub no_consoles : passing (signed 0) 0 16 ≡ []
 unfolding passing
 no_consoles = refl
-
--- a text added to a text that was added
-pub added_after : (start was now first second : List ℕ) → was ≡ start ++ first → now ≡ was ++ second → now ≡ start ++ (first ++ second)
-added_after start was now first second before added = let a = append_assoc start first second in cc
-
--- the same, at a call that ends a function
-pub added_last : {V E : Type 0} (r : Result V E) (start was now first second : List ℕ) → was ≡ start ++ first → IfOk r (λ _. now ≡ was ++ second) → IfOk r (λ _. now ≡ start ++ (first ++ second))
-added_last r start was now first second before = IfOk-weaker r (λ _. now ≡ was ++ second) (λ _. now ≡ start ++ (first ++ second)) (λ _. added_after start was now first second before)
 
 -- what holds anyhow, holds if a call went well
 pub made_any : {V E : Type 0} (r : Result V E) (P : Type 0) → P → IfOk r (λ _. P)

@@ -1,13 +1,10 @@
 -- Orders that a board takes, and the text of their effects.
-use Rattle.std.proofs.Common.{◌≡◌, ℕ, ◌-◌, ◌<◌, ◌≤◌, Bool, true, false, List, [], ◌∷◌, ◌++◌, map, length, get_or, take, drop, IfOk, codes, Result, refl, append_assoc, arith, le-leb}
+use Rattle.std.proofs.Common.{◌≡◌, ℕ, ◌<◌, ◌≤◌, Bool, true, false, List, [], ◌∷◌, ◌++◌, length, IfOk, codes, Result, refl, append_assoc, le-leb}
 use borrow.Author.Tests.{lt-leb}
-use Rattle.std.proofs.lemmas.List.{take_rest}
 use Rattle.std.proofs.lemmas.Result.{IfOk-weaker}
 use Rattle.wire.specs.Read.{all_well_formed}
 use Rattle.wire.specs.declared.order.Order.{Order}
 use Rattle.script.specs.declared.command.NewBoard.{NewBoard}
-use Rattle.telling.specs.Lists.{led}
-use Rattle.telling.specs.Messages.{order_told, orders_told}
 use Rattle.telling.specs.Tries.{effects_told, taken_told, told_effects, trial_told}
 
 module _ {W : Type 0} (rule : W → Order → W) (effect : W → Order → Bool) where
@@ -19,18 +16,10 @@ module _ {W : Type 0} (rule : W → Order → W) (effect : W → Order → Bool)
   effects_some w (o ∷ os) some = refl
 
 -- the effects from a new board on, and then the board after the orders
-pub board_after : {V E W : Type 0} (r : Result V E) (told : W → List ℕ) (after : W → W) (shown : W → List ℕ) (fresh w v : W) (start effects mark now : List ℕ) → w ≡ fresh → effects ≡ start ++ told w → v ≡ after w → mark ≡ effects ++ codes "; " → IfOk r (λ _. now ≡ mark ++ shown v) → IfOk r (λ _. now ≡ start ++ (told fresh ++ (codes "; " ++ shown (after fresh))))
-board_after r told after shown fresh w v start effects mark now new said moved marked =
-    IfOk-weaker r (λ _. now ≡ mark ++ shown v) (λ _. now ≡ start ++ (told fresh ++ (codes "; " ++ shown (after fresh))))
-    (λ _ added.
-    let whole = append_assoc start (told fresh) (codes "; " ++ shown (after fresh)) in
-    let tail = append_assoc (start ++ told fresh) (codes "; ") (shown (after fresh)) in
-    cc)
-
--- the orders as a slice pattern takes them apart
-pub orders_split : (os : List Order) (d : Order) → 1 ≤ length os → orders_told os ≡ order_told (get_or os 0 d) ++ led (codes ", ") (map order_told (take (length os - 1) (drop 1 os)))
-orders_split [] d some = absurd (omega arith)
-orders_split (o ∷ os) d some = rw (take_rest (o ∷ os) 1)
+pub board_after : {V E W : Type 0} (r : Result V E) (told : W → List ℕ) (after : W → W) (shown : W → List ℕ) (fresh w v : W) (start effects now : List ℕ) → w ≡ fresh → effects ≡ start ++ told w → v ≡ after w → IfOk r (λ _. now ≡ effects ++ (codes "; " ++ shown v)) → IfOk r (λ _. now ≡ start ++ (told fresh ++ (codes "; " ++ shown (after fresh))))
+board_after r told after shown fresh w v start effects now new said moved =
+    IfOk-weaker r (λ _. now ≡ effects ++ (codes "; " ++ shown v)) (λ _. now ≡ start ++ (told fresh ++ (codes "; " ++ shown (after fresh))))
+    (λ _ added. let whole = append_assoc start (told fresh) (codes "; " ++ shown (after fresh)) in cc)
 
 -- which orders are refused
 pub trial_of_many : (board : NewBoard) (os : List Order) → 8 < length os → trial_told board os ≡ codes " refused 7"

@@ -1,3 +1,4 @@
+pub mod Adds
 pub mod Lists
 pub mod Messages
 pub mod Shown

@@ -1,45 +1,56 @@
 // Orders in words.
-ghost use Rattle.std.specs.Prelude.{◌≡◌, ◌++◌, map, string_bytes, codes, OnOk};
+ghost use Rattle.std.specs.Prelude.{◌≡◌, map, Some, codes};
+ghost use Rattle.std.specs.Fmt.{WritesOnOk};
 ghost use Rattle.telling.specs.Lists.{led};
 ghost use Rattle.telling.specs.Messages.{order_told, orders_told};
 
-use std::alloc::AllocError;
+use std::fmt;
 use wire::order::Order;
 
-fn write_order(text: &mut String, order: &Order) -> Result<(), AllocError>
-    ensures { OnOk result (string_bytes text.new ≡ string_bytes text.old ++ order_told order.now) }
-{
-    match *order {
-        Order::Send { truck, place } => write!(text, "SD {truck} {place}"),
-        Order::Release { truck } => write!(text, "RL {truck}"),
-        Order::Load {
-            truck,
-            place,
-            amount,
-        } => write!(text, "LD {truck} {place} {amount}"),
+// One order that is shown in words.
+#[derive(Clone, Copy)]
+struct OneOrder<'a>(&'a Order);
+
+impl fmt::Display for OneOrder<'_> {
+    ghost output = { λ o. Some (order_told o.0.now) };
+
+    fn fmt<W: fmt::Write>(&self, f: &mut fmt::Formatter<W>) -> fmt::Result {
+        match *self.0 {
+            Order::Send { truck, place } => write!(f, "SD {truck} {place}"),
+            Order::Release { truck } => write!(f, "RL {truck}"),
+            Order::Load {
+                truck,
+                place,
+                amount,
+            } => write!(f, "LD {truck} {place} {amount}"),
+        }
     }
 }
 
-// Adds orders that follow another one.
-fn write_more_orders(text: &mut String, orders: &[Order]) -> Result<(), AllocError>
-    ensures { OnOk result (string_bytes text.new ≡ string_bytes text.old ++ led (codes ", ") (map order_told orders.now)) }
+// Writes orders that follow another one.
+fn write_more<W: fmt::Write>(f: &mut fmt::Formatter<W>, orders: &[Order]) -> fmt::Result
+    ensures { WritesOnOk W.write_str_gives f.old result (led (codes ", ") (map order_told orders.now)) f.new }
 {
     for order in orders {
-        write!(text, ", ")?;
-        write_order(text, order)?;
+        write!(f, ", {}", OneOrder(order))?;
     }
     Ok(())
 }
 
-// Adds orders, or `-` where there are none.
-pub fn write_orders(text: &mut String, orders: &[Order]) -> Result<(), AllocError>
-    ensures { OnOk result (string_bytes text.new ≡ string_bytes text.old ++ orders_told orders.now) }
-{
-    match orders {
-        [] => write!(text, "-"),
-        [first, rest @ ..] => {
-            write_order(text, first)?;
-            write_more_orders(text, rest)
+// Orders that are shown in words, or as `-` where there are none.
+#[derive(Clone, Copy)]
+pub struct OrderList<'a>(pub &'a [Order]);
+
+impl fmt::Display for OrderList<'_> {
+    ghost output = { λ o. Some (orders_told o.0.now) };
+
+    fn fmt<W: fmt::Write>(&self, f: &mut fmt::Formatter<W>) -> fmt::Result {
+        match self.0 {
+            [] => f.write_str("-"),
+            [first, rest @ ..] => {
+                write!(f, "{}", OneOrder(first))?;
+                write_more(f, rest)
+            }
         }
     }
 }

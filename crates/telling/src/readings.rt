@@ -1,14 +1,14 @@
 // What is said of a datagram.
-ghost use Rattle.std.specs.Prelude.{◌≡◌, ◌<◌, [], ◌++◌, map, if◌then◌else◌, Some, string_bytes, codes, decimal, OnOk};
+ghost use Rattle.std.specs.Prelude.{◌≡◌, ◌<◌, [], ◌++◌, map, if◌then◌else◌, Some, codes, decimal};
+ghost use Rattle.std.specs.Fmt.{WritesOnOk};
 ghost use Rattle.wire.specs.Format.{signed};
 ghost use Rattle.telling.specs.Lists.{led};
-ghost use Rattle.telling.specs.Messages.{consoles, message_told, placed_told, proposal_told, reading_told, signers_told, vote_told};
+ghost use Rattle.telling.specs.Messages.{consoles, message_told, placed_told, reading_told, signers_told};
 
-use crate::orders::write_orders;
-use std::alloc::AllocError;
+use crate::orders::OrderList;
 use std::fmt;
 use text::hex::Hex;
-use wire::message::{Proposal, Vote};
+use wire::certificate::Signers;
 use wire::reading::{Part, Reading, read};
 
 // A part, shown by its place as offset+length.
@@ -24,103 +24,102 @@ impl fmt::Display for Placed<'_> {
     }
 }
 
-// Adds a console's number after a space, if the console is in the set.
-fn write_signer(text: &mut String, set: u16, console: u16) -> Result<(), AllocError>
+// Writes a console's number after a space, if the console is in the set.
+fn write_signer<W: fmt::Write>(f: &mut fmt::Formatter<W>, set: u16, console: u16) -> fmt::Result
     requires { console < 16 }
-    ensures { OnOk result (string_bytes text.new ≡ string_bytes text.old ++ (if signed set console then codes " " ++ decimal console else [])) }
+    ensures { WritesOnOk W.write_str_gives f.old result (if signed set console then codes " " ++ decimal console else []) f.new }
 {
     if (set >> console) % 2 == 1 {
-        write!(text, " {console}")
+        write!(f, " {console}")
     } else {
         Ok(())
     }
 }
 
-// Adds the consoles of a set, by rising number.
-fn write_each_signer(text: &mut String, set: u16) -> Result<(), AllocError>
-    ensures { OnOk result (string_bytes text.new ≡ string_bytes text.old ++ led (codes " ") (map decimal (consoles set))) }
+// Writes the consoles of a set, by rising number.
+fn write_each_signer<W: fmt::Write>(f: &mut fmt::Formatter<W>, set: u16) -> fmt::Result
+    ensures { WritesOnOk W.write_str_gives f.old result (led (codes " ") (map decimal (consoles set))) f.new }
 {
     for console in 0..16u16 {
-        write_signer(text, set, console)?;
+        write_signer(f, set, console)?;
     }
     Ok(())
 }
 
-// Adds the consoles of a set, or `-` where it has none.
-fn write_signers(text: &mut String, set: u16) -> Result<(), AllocError>
-    ensures { OnOk result (string_bytes text.new ≡ string_bytes text.old ++ signers_told set) }
-{
-    if set == 0 {
-        write!(text, " -")
-    } else {
-        write_each_signer(text, set)
+// The consoles of a set, or `-` where it has none, each after a space.
+#[derive(Clone, Copy)]
+struct SignerList<'a>(&'a Signers);
+
+impl fmt::Display for SignerList<'_> {
+    ghost output = { λ s. Some (signers_told s.0.now.set) };
+
+    fn fmt<W: fmt::Write>(&self, f: &mut fmt::Formatter<W>) -> fmt::Result {
+        let set = self.0.set;
+        if set == 0 {
+            f.write_str(" -")
+        } else {
+            write_each_signer(f, set)
+        }
     }
 }
 
-fn write_proposal(
-    text: &mut String,
-    value: &Proposal,
-    body: Part<'_>,
-    certificate: Part<'_>,
-    seal: Part<'_>,
-) -> Result<(), AllocError>
-    ensures { OnOk result (string_bytes text.new ≡ string_bytes text.old ++ proposal_told value.now (placed_told body.entry) (placed_told certificate.entry) (placed_told seal.entry)) }
-{
-    let name = value.body.name();
-    let parent = value.body.parent;
-    write!(
-        text,
-        "proposal {}, name {}, parent {} {}, signers",
-        value.body.view,
-        Hex(&name),
-        parent.view,
-        Hex(&parent.name)
-    )?;
-    write_signers(text, value.certificate.signers.set)?;
-    write!(
-        text,
-        ", body {}, certificate {}, seal {}, orders ",
-        Placed(body),
-        Placed(certificate),
-        Placed(seal)
-    )?;
-    write_orders(text, value.body.orders.as_slice())
-}
+// A message and the places of its parts.
+#[derive(Clone, Copy)]
+struct Message<'a>(Reading<'a>);
 
-fn write_vote(text: &mut String, value: &Vote, seal: Part<'_>) -> Result<(), AllocError>
-    ensures { OnOk result (string_bytes text.new ≡ string_bytes text.old ++ vote_told value.now (placed_told seal.entry)) }
-{
-    write!(
-        text,
-        "vote {}, name {}, voter {}, seal {}",
-        value.block.view,
-        Hex(&value.block.name),
-        value.voter,
-        Placed(seal)
-    )
-}
+impl fmt::Display for Message<'_> {
+    ghost output = { λ m. Some (message_told m.0) };
 
-// Adds a message and the places of its parts.
-fn write_message(text: &mut String, reading: Reading<'_>) -> Result<(), AllocError>
-    ensures { OnOk result (string_bytes text.new ≡ string_bytes text.old ++ message_told reading.entry) }
-{
-    match reading {
-        Reading::Proposal {
-            body,
-            certificate,
-            seal,
-            value,
-        } => write_proposal(text, &value, body, certificate, seal),
-        Reading::Vote { seal, value } => write_vote(text, &value, seal),
+    fn fmt<W: fmt::Write>(&self, f: &mut fmt::Formatter<W>) -> fmt::Result {
+        match self.0 {
+            Reading::Proposal {
+                body,
+                certificate,
+                seal,
+                value,
+            } => {
+                let name = value.body.name();
+                let parent = value.body.parent;
+                write!(
+                    f,
+                    "proposal {}, name {}, parent {} {}, signers{}, body {}, certificate {}, seal {}, orders {}",
+                    value.body.view,
+                    Hex(&name),
+                    parent.view,
+                    Hex(&parent.name),
+                    SignerList(&value.certificate.signers),
+                    Placed(body),
+                    Placed(certificate),
+                    Placed(seal),
+                    OrderList(value.body.orders.as_slice())
+                )
+            }
+            Reading::Vote { seal, value } => write!(
+                f,
+                "vote {}, name {}, voter {}, seal {}",
+                value.block.view,
+                Hex(&value.block.name),
+                value.voter,
+                Placed(seal)
+            ),
+        }
     }
 }
 
-// Adds what is said of a datagram in a pit of n consoles.
-pub fn write_reading(text: &mut String, n: u8, datagram: &[u8]) -> Result<(), AllocError>
-    ensures { OnOk result (string_bytes text.new ≡ string_bytes text.old ++ reading_told n datagram.now) }
-{
-    match read(n, datagram) {
-        Ok(reading) => write_message(text, reading),
-        Err(refusal) => write!(text, "refused {}", refusal.number()),
+// What is said of a datagram in a pit of n consoles.
+#[derive(Clone, Copy)]
+pub struct Said<'a> {
+    pub n: u8,
+    pub datagram: &'a [u8],
+}
+
+impl fmt::Display for Said<'_> {
+    ghost output = { λ s. Some (reading_told s.n s.datagram.now) };
+
+    fn fmt<W: fmt::Write>(&self, f: &mut fmt::Formatter<W>) -> fmt::Result {
+        match read(self.n, self.datagram) {
+            Ok(reading) => write!(f, "{}", Message(reading)),
+            Err(refusal) => write!(f, "refused {}", refusal.number()),
+        }
     }
 }

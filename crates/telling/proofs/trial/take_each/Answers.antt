@@ -7,7 +7,7 @@ pub loop-order-preserved : goal.loop-order-preserved
 loop-order-preserved g c =
     let rule = g.B.Board.rule in
     let taken = c.loop-order-test.true in (
-      effect-more rule g.B.Board.effect _ _ _ _ _ c.args.orders.now c.loop-order.order-index _ c.take-effect.result taken c.take-effect.ensures.answer c.take-effect.ensures.after c.in_ok-write_effect.ensures c.loop-order.invariant.0,
+      effect-more rule g.B.Board.effect _ _ _ _ _ c.args.orders.now c.loop-order.order-index _ c.take-effect.result taken c.take-effect.ensures.answer c.take-effect.ensures.after c.in_ok-write.ensures.bytes c.loop-order.invariant.0,
       fed_more rule _ _ c.args.orders.now c.loop-order.order-index _ taken c.take-effect.ensures.after ∙ c.loop-order.invariant.1,
     )
 

@@ -10,5 +10,5 @@ use Rattle.telling.proofs.trial.try_tonnage.Goals as goal
 pub returns : goal.returns
 returns c =
     let taken = c.in_ok-write_effects.ensures in
-    board_after c.write_tonnage.result (λ w. told_effects tallied counts w c.args.orders.now) (λ w. fed tallied w c.args.orders.now) tonnage_told
-    (replicate 64 no_loads) _ _ (string_bytes c.args.text.now) _ _ _ c.new-board.ensures taken.effects taken.board c.in_ok-write.ensures.bytes c.write_tonnage.ensures
+    board_after c.write.result (λ w. told_effects tallied counts w c.args.orders.now) (λ w. fed tallied w c.args.orders.now) tonnage_told
+    (replicate 64 no_loads) _ _ (string_bytes c.args.text.now) _ _ c.new-board.ensures taken.effects taken.board c.write.ensures.bytes
