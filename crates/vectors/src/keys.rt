@@ -18,13 +18,11 @@ fn filled(key: &[u8]) -> [u8; 32]
 fn like(key: &[u8]) -> Option<[u8; 32]>
     ensures { MatchOption result ((32 < length key.now) × (length key.now ≤ 64)) (λ k. (message : List ℕ) → hmac k message ≡ hmac key.now message) }
 {
-    if key.len() > 64 {
-        return Some(sha256(key));
+    match key.len() {
+        0..=32 => Some(filled(key)),
+        33..=64 => None,
+        _ => Some(sha256(key)),
     }
-    if key.len() > 32 {
-        return None;
-    }
-    Some(filled(key))
 }
 
 /// The tag of a message, or `None` under a key of 33 to 64 bytes.

@@ -2,37 +2,30 @@
 #![tactic(auto)]
 
 mod cases;
-mod hex;
 mod keys;
 mod report;
 
-use cases::{DIGESTS, DigestCase, TAGS, TagCase};
+use cases::{CASES, Case};
 use digest::sha256;
-use report::Tally;
+use report::{Tally, shown};
 use std::io;
 
-fn run_digest(rt: &HostRuntime, tally: &mut Tally, case: &DigestCase) -> io::Result<()> {
+fn run(rt: &HostRuntime, tally: &mut Tally, case: &Case) -> io::Result<()> {
     let message = case.message.bytes(rt.alloc())?;
-    let came = sha256(&message);
-    tally.enter(rt, case.name, &came, case.digest)
-}
-
-fn run_tag(rt: &HostRuntime, tally: &mut Tally, case: &TagCase) -> io::Result<()> {
-    let key = case.key.bytes(rt.alloc())?;
-    let message = case.message.bytes(rt.alloc())?;
-    match keys::tag(&key, &message) {
-        Some(came) => tally.enter(rt, case.name, &came, case.tag),
+    let came = match &case.key {
+        None => Some(sha256(&message)),
+        Some(key) => keys::tag(&key.bytes(rt.alloc())?, &message),
+    };
+    match came {
+        Some(came) => tally.enter(rt, case.name, &shown(rt.alloc(), &came)?, case.published),
         None => tally.skip(rt, case.name),
     }
 }
 
 fn main(rt: HostRuntime) -> io::Result<()> {
-    let mut tally = Tally::new();
-    for case in &DIGESTS {
-        run_digest(&rt, &mut tally, case)?;
-    }
-    for case in &TAGS {
-        run_tag(&rt, &mut tally, case)?;
+    let mut tally = Tally::default();
+    for case in &CASES {
+        run(&rt, &mut tally, case)?;
     }
     tally.total(&rt)
 }

@@ -1,26 +1,18 @@
 // A line for each example, and the total.
-ghost use Rattle.std.specs.Prelude.{◌≡◌, if◌then◌else◌, IsUtf8, Decides};
+ghost use Rattle.std.specs.Prelude.{◌≡◌, ℕ, List, if◌then◌else◌, IfOk, string_bytes};
+ghost use Rattle.text.specs.Hexadecimal.{hex_pairs};
 ghost use Rattle.vectors.specs.Bytes.{Published};
 ghost use Rattle.vectors.specs.Counts.{more};
 
-use crate::hex::hex;
+use std::alloc::{AllocError, Global};
 use std::io;
+use text::hex::Hex;
 
-// The bytes as text, where they are text.
-fn text(bytes: &[u8]) -> &str
-    ensures { IsUtf8 bytes.now → result.now ≡ bytes.now }
+/// A digest or a tag in hexadecimal.
+pub fn shown(alloc: Global, came: &[u8; 32]) -> Result<String, AllocError>
+    ensures { IfOk result (λ s. string_bytes s ≡ hex_pairs came.now) }
 {
-    match std::str::from_utf8(bytes) {
-        Ok(text) => text,
-        Err(_) => "no text",
-    }
-}
-
-// Whether what came begins, in hexadecimal, with the published digits.
-fn is_published(came: &[u8; 32], published: &str) -> bool
-    ensures { Decides result (Published came.now published.now) }
-{
-    hex(came).starts_with(published.as_bytes())
+    format!(in alloc; "{}", Hex(came))
 }
 
 fn line(rt: &HostRuntime, name: &str, shown: &str, right: bool) -> io::Result<()> {
@@ -29,19 +21,13 @@ fn line(rt: &HostRuntime, name: &str, shown: &str, right: bool) -> io::Result<()
 }
 
 /// How many examples were run, and how many of them gave the published value.
-#[derive(Clone, Copy)]
+#[derive(Clone, Copy, Default)]
 pub struct Tally {
     run: u64,
     right: u64,
 }
 
 impl Tally {
-    pub fn new() -> Tally
-        ensures { (result.run ≡ 0) × (result.right ≡ 0) }
-    {
-        Tally { run: 0, right: 0 }
-    }
-
     // One more example. A count that is full stays so.
     fn count(&mut self, right: bool)
         ensures run { self.new.run ≡ more self.old.run }
@@ -53,22 +39,21 @@ impl Tally {
         }
     }
 
-    /// Writes the line of an example: its first bytes, as many as are published, and whether they are as published.
+    /// Writes the line of an example: the digits that came, as many as are published, and whether they are as published.
     pub fn enter(
         &mut self,
         rt: &HostRuntime,
         name: &str,
-        came: &[u8; 32],
+        digits: &str,
         published: &str,
     ) -> io::Result<()>
         ensures run { self.new.run ≡ more self.old.run }
-        ensures right { Published came.now published.now → self.new.right ≡ more self.old.right }
-        ensures wrong { (Published came.now published.now → ⊥) → self.new.right ≡ self.old.right }
+        ensures right { (came : List ℕ) → digits.now ≡ hex_pairs came → Published came published.now → self.new.right ≡ more self.old.right }
+        ensures wrong { (came : List ℕ) → digits.now ≡ hex_pairs came → (Published came published.now → ⊥) → self.new.right ≡ self.old.right }
     {
-        let right = is_published(came, published);
+        let right = digits.starts_with(published);
         self.count(right);
-        let digits = hex(came);
-        let shown = text(&digits[0..published.len().min(64)]);
+        let shown = digits.get(..published.len()).unwrap_or(digits);
         line(rt, name, shown, right)
     }
 
