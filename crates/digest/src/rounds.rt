@@ -121,7 +121,8 @@ impl State {
 }
 
 fn mixed_word(ws: &[u32; 64], t: usize) -> u32
-    requires { (16 ≤ t) × (t < 64) }
+    requires after_block { 16 ≤ t }
+    requires in_schedule { t < 64 }
     ensures { result ≡ mixed_word ws.now t }
 {
     small_sigma::<17, 19, 10>(ws[t - 2])
