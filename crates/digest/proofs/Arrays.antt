@@ -1,10 +1,9 @@
 -- Arrays made by a function of each element or of each place, and the arrays that a slice is read as.
 use Rattle.std.proofs.Common.{◌≡◌, ℕ, zero, suc, ◌+◌, ◌*◌, ◌<◌, List, [], map, length, get_or, take, drop, refl, subst, arith}
 use Rattle.std.proofs.lemmas.List.{drop_all, drop_more, drop-drop, get_or-drop, get_or-take}
-use Rattle.std.specs.Array.{IsMapOf, MapsFrom, IsFromFnResult, IsFromFnResultFrom}
+use Rattle.std.specs.Array.{IsMapOf, MapsFrom}
 use Rattle.std.specs.Fn.{Mut, Called}
 use Rattle.std.specs.Int.{from_be_bytes, w32}
-use Rattle.std.specs.List.{range_with_len}
 use Rattle.std.specs.Simd.{first_chunks}
 use Rattle.digest.specs.Sha256.{block_word}
 
@@ -28,23 +27,6 @@ module _ {F A B : Type 0} (g : Mut F (A × Unit {0}) B) (v : A → B) (f : F) (s
   -- `map` of an array, by a function that keeps no state
   pub maps_are : (n : ℕ) (xs : List A) (ys : List B) → length xs ≡ n → IsMapOf g f xs ys n → ys ≡ map v xs
   maps_are n xs ys l s = maps_from n 0 xs ys (omega arith) (omega (arith, s.long)) s.each
-
-module _ {F B : Type 0} (g : Mut F (ℕ × Unit {0}) B) (v : ℕ → B) (f : F) (m : ℕ) (step : (i : ℕ) (y : B) (q : F) → i < m → Called g f (i, tt) y q → (y ≡ v i) × (q ≡ f)) where
-  fills_from : (n i : ℕ) (ys : List B) → i + n ≡ m → length ys ≡ m → IsFromFnResultFrom g f ys i n → drop i ys ≡ map v (range_with_len i n)
-  fills_from zero i ys e l s = drop_all i ys (omega arith)
-  fills_from (suc n) i ys e l s =
-      let y : B = s.1 in
-      let met = step i y s.0 (omega arith) s.3 in
-      let rest = subst (λ r. IsFromFnResultFrom g r ys (i + 1) n) met.1 s.4 in
-      let after = fills_from n (i + 1) ys (omega arith) l rest in
-      let b = drop_more ys i y (omega arith) in
-      let d = s.2.0 in
-      let k = met.0 in
-      cc
-
-  -- `array::from_fn`, by a function that keeps no state
-  pub fills_are : (ys : List B) → IsFromFnResult g f ys m → ys ≡ map v (range_with_len 0 m)
-  fills_are ys s = fills_from m 0 ys (omega arith) s.long s.each
 
 -- the array at place i
 pub chunk_at : (n k i : ℕ) (xs : List ℕ) → i < k → get_or (first_chunks n k xs) i [] ≡ take n (drop (n * i) xs)

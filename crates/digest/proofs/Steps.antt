@@ -1,9 +1,9 @@
 -- The step of each recursion of specs/Sha256.
-use Rattle.std.proofs.Common.{◌≡◌, ℕ, ◌+◌, ◌-◌, ◌*◌, ◌<◌, ◌≤◌, false, ltb, List, length, get_or, take, drop, set, add-one, arith}
+use Rattle.std.proofs.Common.{◌≡◌, ℕ, ◌+◌, ◌-◌, ◌*◌, ◌<◌, ◌≤◌, true, false, ltb, List, length, get_or, take, drop, set, add-one, arith}
 use Rattle.std.proofs.lemmas.List.{take_all, take_more_set, get_or-drop, get_or-take}
 use Rattle.std.proofs.lemmas.Bool.Decides.{nat_tests}
 use Rattle.digest.specs.declared.state.State.{State}
-use Rattle.digest.specs.Sha256.{K, round, rounds, schedule, grown, next_word, mixed_word, compress, absorb}
+use Rattle.digest.specs.Sha256.{K, round, rounds, schedule, grown, next_word, block_word, mixed_word, compress, absorb}
 
 pub rounds_more : (t : ℕ) (v : State) (ws : List ℕ) → rounds (t + 1) v ws ≡ round (rounds t v ws) (get_or K t 0) (get_or ws t 0)
 unfolding rounds
@@ -20,6 +20,9 @@ absorb_more n v xs = rw add-one
 -- one more word of the schedule, read from the block or made of those before it
 pub schedule_step : (block ws : List ℕ) (t x : ℕ) → t < length ws → x ≡ next_word block (take t ws) t → take t ws ≡ schedule block t → take (t + 1) (set ws t x) ≡ schedule block (t + 1)
 schedule_step block ws t x h e p = let a = take_more_set ws t x h in let b = schedule_more block t in cc
+
+pub word_read : (block ws : List ℕ) (t x : ℕ) → t < 16 → x ≡ block_word block t → x ≡ next_word block ws t
+word_read block ws t x h e = let q : ltb t 16 ≡ true = grind (arith, nat_tests) in rw q e
 
 pub word_mixed : (block ws : List ℕ) (t x : ℕ) → 16 ≤ t → x ≡ mixed_word ws t → x ≡ next_word block (take t ws) t
 word_mixed block ws t x h e =

@@ -5,7 +5,6 @@ ghost use Rattle.digest.specs.declared.state.State.{State};
 ghost use Rattle.digest.specs.Sha256.{shr, Ch, Maj, K, round, rounds, schedule, compress, mixed_word, summed};
 
 use crate::state::State;
-use std::array;
 
 static ROUND_CONSTANTS: [u32; 64] = [
     0x428a2f98, 0x71374491, 0xb5c0fbcf, 0xe9b5dba5, 0x3956c25b, 0x59f111f1, 0x923f82a4, 0xab1c5ed5,
@@ -131,21 +130,23 @@ fn mixed_word(ws: &[u32; 64], t: usize) -> u32
         .wrapping_add(ws[t - 16])
 }
 
-// The words of a block: 16 from its bytes, and 48 made of those before them.
 fn schedule(block: &[u8; 64]) -> [u32; 64]
     ensures { result ≡ schedule block.now 64 }
 {
     let mut ws = [0; 64];
-    ws[..16].copy_from_slice(&block_words(block));
+    load(&mut ws, block);
     extend(&mut ws);
     ws
 }
 
-fn block_words(block: &[u8; 64]) -> [u32; 16]
-    ensures { result ≡ schedule block.now 16 }
+// The first 16 words, which stand in the block.
+fn load(ws: &mut [u32; 64], block: &[u8; 64])
+    ensures { take 16 ws.new ≡ schedule block.now 16 }
 {
     let (words, _) = block.as_chunks::<4>();
-    array::from_fn(|t| u32::from_be_bytes(words[t]))
+    for (t, word) in words.iter().enumerate() {
+        ws[t] = u32::from_be_bytes(*word);
+    }
 }
 
 // The other 48 words.
