@@ -2,8 +2,8 @@
 use Rattle.std.proofs.Common.{◌≡◌, ℕ, zero, suc, ◌+◌, ◌*◌, ◌/◌, ◌%◌, ◌^◌, ◌<◌, ◌≤◌, List, [], ◌∷◌, length, get_or, take, drop, sym, refl, ap, ◌∙◌, add_assoc, mod-lt, mod-eq_of_lt, div-one, arith, lit<, length-drop, length-take}
 use native.Mathlib.Nat.{pow-succ', mod-one}
 use lib.Arith.{mod-mul, digits_lt, digits_div, digits_mod}
-use Rattle.std.proofs.lemmas.List.{drop_more}
-use Rattle.wire.specs.Bytes.{be, num, number, Octets}
+use Rattle.std.proofs.lemmas.List.{drop_more, take_all}
+use Rattle.wire.specs.Bytes.{be, num, field, number, Octets}
 
 -- as `to_be_bytes` gives it
 pub be_1 : (v : ℕ) → v < 256 → be 1 v ≡ v ∷ []
@@ -84,3 +84,16 @@ number_4 at bs h =
     let b = number_step (at + 1) 2 bs (omega arith) in
     let r : number (at + 1 + 1) 2 bs ≡ get_or bs (at + 2) 0 * 256 + get_or bs (at + 3) 0 = rw (add_assoc at 1 1) (number_2 (at + 2) bs (omega arith) ∙ rw (add_assoc at 2 1)) in
     omega arith
+
+-- the number in an array of bytes
+pub array_2 : (at : ℕ) (bs l : List ℕ) (v : ℕ) → at + 2 ≤ length bs → l ≡ field at 2 bs → v ≡ get_or l 0 0 * 256 + get_or l 1 0 → v ≡ number at 2 bs
+array_2 at bs l v h e f =
+    let two : length (field at 2 bs) ≡ 2 = simp (length-take, length-drop) (omega arith) in
+    let n = number_2 0 l (rw e (omega arith)) in
+    f ∙ (sym n ∙ ap num (ap (take 2) e ∙ take_all 2 (field at 2 bs) (omega arith)))
+
+pub array_4 : (at : ℕ) (bs l : List ℕ) (v : ℕ) → at + 4 ≤ length bs → l ≡ field at 4 bs → v ≡ get_or l 0 0 * 16777216 + get_or l 1 0 * 65536 + get_or l 2 0 * 256 + get_or l 3 0 → v ≡ number at 4 bs
+array_4 at bs l v h e f =
+    let four : length (field at 4 bs) ≡ 4 = simp (length-take, length-drop) (omega arith) in
+    let n = number_4 0 l (rw e (omega arith)) in
+    f ∙ (sym n ∙ ap num (ap (take 4) e ∙ take_all 4 (field at 4 bs) (omega arith)))

@@ -1,5 +1,5 @@
 -- The lengths and the parts of a proposal.
-use Rattle.std.proofs.Common.{◌≡◌, ℕ, suc, ◌+◌, ◌-◌, ◌*◌, ◌<◌, ◌≤◌, true, false, ◌&&◌, eqb, ltb, List, [], ◌∷◌, length, take, drop, Some, Ok, Err, codes, sym, refl, ap, ◌∙◌, subst, arith}
+use Rattle.std.proofs.Common.{◌≡◌, ℕ, suc, ◌+◌, ◌-◌, ◌*◌, ◌<◌, ◌≤◌, true, false, ◌&&◌, eqb, ltb, List, [], ◌∷◌, length, take, drop, Ok, Err, codes, sym, refl, ap, ◌∙◌, subst, arith}
 use lib.Count.{ones}
 use Rattle.std.proofs.lemmas.List.{take_all, take_rest, take-take, drop-take, length-drop, length-take}
 use Rattle.std.proofs.lemmas.Bool.Decides.{nat_tests}
@@ -51,7 +51,7 @@ module _ (bs : List ℕ) (k : ℕ) (is : k ≡ number 42 1 bs) (few : k ≤ 8) (
         let n' : length (past_body bs) ≡ certificate_length (past_body bs) + 16 → ⊥ = λ e. n (p ∙ (e ∙ ap (λ (m : ℕ). m + 16) (sym c))) in
         grind (arith, nat_tests)
 
-    pub fit : length (take (length bs - (43 + 8 * k)) (drop (43 + 8 * k) bs)) ≡ 40 + 16 * s + 16 → Lengths bs (Some (43 + 8 * k, 40 + 16 * s))
+    pub fit : length (take (length bs - (43 + 8 * k)) (drop (43 + 8 * k) bs)) ≡ 40 + 16 * s + 16 → Lengths bs (Ok (record { body = 43 + 8 * k; certificate = 40 + 16 * s }))
     unfolding proposal_fits
     fit e =
         let p = ap length past_is in
@@ -60,7 +60,7 @@ module _ (bs : List ℕ) (k : ℕ) (is : k ≡ number 42 1 bs) (few : k ≤ 8) (
         (grind (arith, nat_tests), omega arith, c, omega arith, omega arith, omega arith, omega arith)
 
 -- what the two lengths cut out
-module _ (bs : List ℕ) (b c : ℕ) (l : Lengths bs (Some (b, c))) (x y z : List ℕ) (e : x ≡ take b bs) (f : y ≡ take c (drop b bs)) (g : z ≡ drop c (drop b bs)) where
+module _ (bs : List ℕ) (b c : ℕ) (l : Lengths bs (Ok (record { body = b; certificate = c }))) (x y z : List ℕ) (e : x ≡ take b bs) (f : y ≡ take c (drop b bs)) (g : z ≡ drop c (drop b bs)) where
   pub body_is : x ≡ body_part bs
   body_is = e ∙ ap (λ (n : ℕ). take n bs) l.1
 

@@ -1,16 +1,16 @@
 -- What a reading hands out: the message, and the parts of the bytes heard with their places.
-use Rattle.std.specs.Prelude.{◌≡◌, ℕ, ◌+◌, ◌-◌, ◌≤◌, true, false, List, length, take, drop, Some, None, Ok, Err, Option, Result, slice_index}
+use Rattle.std.specs.Prelude.{◌≡◌, ℕ, ◌+◌, ◌≤◌, true, false, List, length, drop, Ok, Err, Result, slice_index}
 use Rattle.wire.specs.Bytes.{number}
 use Rattle.wire.specs.Format.{body_bytes}
 use Rattle.wire.specs.Read.{body_length, certificate_length, body_part, past_body, certificate_part, seal_part, proposal_fits}
 use Rattle.wire.specs.declared.message.Message.{Message}
 use Rattle.wire.specs.declared.message.Message.TheVariants as message
-use Rattle.wire.specs.declared.reading.Kind.{Kind}
-use Rattle.wire.specs.declared.reading.Kind.TheVariants as kind
 use Rattle.wire.specs.declared.reading.Part.{Part}
 use Rattle.wire.specs.declared.reading.Reading.{Reading}
 use Rattle.wire.specs.declared.reading.Reading.TheVariants as reading
+use Rattle.wire.specs.declared.reading.Sizes.{Sizes}
 use Rattle.wire.specs.declared.unreadable.Unreadable.{Unreadable}
+use Rattle.wire.specs.declared.unreadable.Unreadable.TheVariants.{Length}
 
 -- the message, or the refusal
 abbrev pub message_of : Reading → Message
@@ -39,24 +39,18 @@ abbrev pub Parted : List ℕ → Result Reading Unreadable → Type 0
 Parted bytes (Ok g) = PartsOf bytes g
 Parted bytes (Err e) = Unit {0}
 
--- the lengths of a proposal's body and certificate, if its bytes after the mark fit
-abbrev pub Lengths : List ℕ → Option (ℕ × ℕ) → Type 0
-Lengths bytes None = proposal_fits bytes ≡ false
-Lengths bytes (Some p) =
+-- the lengths of a proposal's body and certificate, if its bytes after the mark fit; else the refusal
+abbrev pub Lengths : List ℕ → Result Sizes Unreadable → Type 0
+Lengths bytes (Err e) = (e ≡ Length) × (proposal_fits bytes ≡ false)
+Lengths bytes (Ok s) =
     (proposal_fits bytes ≡ true) ×
-    (p.0 ≡ body_length bytes) ×
-    (p.1 ≡ certificate_length (past_body bytes)) ×
+    (s.body ≡ body_length bytes) ×
+    (s.certificate ≡ certificate_length (past_body bytes)) ×
     (number 42 1 bytes ≤ 8) ×
-    (p.1 ≤ 296) ×
-    (length (past_body bytes) ≡ p.1 + 16) ×
-    (length bytes ≡ p.0 + p.1 + 16)
+    (s.certificate ≤ 296) ×
+    (length (past_body bytes) ≡ s.certificate + 16) ×
+    (length bytes ≡ s.body + s.certificate + 16)
 
 -- the first two bytes
 abbrev pub Opens : ℕ → ℕ → List ℕ → Type 0
 Opens first second bytes = (2 ≤ length bytes) × (slice_index bytes 0 ≡ first) × (slice_index bytes 1 ≡ second)
-
--- a datagram told apart by its mark
-abbrev pub Told : List ℕ → Kind → Type 0
-Told bytes (kind.Proposal rest) = Opens 80 82 bytes × (rest.now ≡ take (length bytes - 2) (drop 2 bytes))
-Told bytes (kind.Vote rest) = Opens 86 84 bytes × (rest.now ≡ take (length bytes - 2) (drop 2 bytes))
-Told bytes kind.Neither = (Opens 80 82 bytes → ⊥) × (Opens 86 84 bytes → ⊥)

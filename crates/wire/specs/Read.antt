@@ -1,6 +1,6 @@
 -- The reading of a datagram in a pit of n consoles: the first ground that refuses it, else its message.
-use Rattle.std.specs.Prelude.{ℕ, zero, suc, ◌+◌, ◌*◌, ◌%◌, ◌^◌, Bool, true, cond, not, ◌&&◌, ◌||◌, List, [], ◌∷◌, map, length, take, drop, Ok, Err, codes, Result, ◌==◌, count_ones, nat_le, nat_lt}
-use Rattle.std.specs.List.{range_with_len}
+use Rattle.std.specs.Prelude.{ℕ, zero, suc, ◌+◌, ◌*◌, ◌%◌, ◌^◌, Bool, cond, not, ◌&&◌, ◌||◌, List, [], ◌∷◌, map, length, take, drop, Ok, Err, codes, Result, ◌==◌, count_ones, nat_le, nat_lt}
+use Rattle.std.specs.List.{range_with_len, list_all}
 use Rattle.std.specs.Str.{bytes_eq}
 use Rattle.wire.specs.Bytes.{field, number}
 use Rattle.wire.specs.Format.{well_formed, blank, pack, orders_of, origin, same_key, signed, no_seal}
@@ -11,6 +11,7 @@ use Rattle.wire.specs.declared.message.Message.{Message}
 use Rattle.wire.specs.declared.message.Message.TheVariants as message
 use Rattle.wire.specs.declared.message.Proposal.{Proposal}
 use Rattle.wire.specs.declared.message.Vote.{Vote}
+use Rattle.wire.specs.declared.order.Fields.{Fields}
 use Rattle.wire.specs.declared.order.Order.{Order}
 use Rattle.wire.specs.declared.order.Order.TheVariants.{Send, Release, Load}
 use Rattle.wire.specs.declared.unreadable.Unreadable.{Unreadable}
@@ -32,13 +33,21 @@ marked mark bytes = bytes_eq (take 2 bytes) mark
 abbrev pub key_at : ℕ → List ℕ → Key
 key_at at bytes = record { view = number at 4 bytes; name = field (at + 4) 32 bytes }
 
+-- the mark and the numbers of an order
+abbrev pub fields_in : List ℕ → Fields
+fields_in bytes =
+    record { mark = take 2 bytes; truck = number 2 2 bytes; place = number 4 2 bytes; amount = number 6 2 bytes }
+
 -- a field that the order's kind does not use has to be 0: else, and under another mark, the order is blank, so ill-formed
+abbrev pub order_of : Fields → Order
+order_of f =
+    cond (bytes_eq f.mark (codes "SD") && f.amount == 0) (Send f.truck f.place)
+    (cond (bytes_eq f.mark (codes "RL") && (f.place == 0 && f.amount == 0))
+    (Release f.truck)
+    (cond (bytes_eq f.mark (codes "LD")) (Load f.truck f.place f.amount) blank))
+
 unfoldable pub order_in : List ℕ → Order
-order_in bytes =
-    cond (marked (codes "SD") bytes && number 6 2 bytes == 0) (Send (number 2 2 bytes) (number 4 2 bytes))
-    (cond (marked (codes "RL") bytes && (number 4 2 bytes == 0 && number 6 2 bytes == 0))
-    (Release (number 2 2 bytes))
-    (cond (marked (codes "LD") bytes) (Load (number 2 2 bytes) (number 4 2 bytes) (number 6 2 bytes)) blank))
+order_in bytes = order_of (fields_in bytes)
 
 -- k orders, one after another
 unfoldable pub orders_in : ℕ → List ℕ → List Order
@@ -111,8 +120,7 @@ vote_fits bytes = length bytes == 53
 -- What is asked of the values.
 
 unfoldable pub all_well_formed : List Order → Bool
-all_well_formed [] = true
-all_well_formed (o ∷ os) = well_formed o && all_well_formed os
+all_well_formed os = list_all well_formed os
 
 -- the view is above the parent's, so it is not 0
 abbrev pub body_stands : Body → Bool

@@ -3,13 +3,13 @@ ghost use Rattle.std.specs.List.{flat_map};
 ghost use Rattle.wire.specs.Format.{body_bytes, body_key, body_name, order_bytes, orders_of};
 ghost use Rattle.wire.specs.Bytes.{number};
 ghost use Rattle.wire.specs.Read.{body_in, body_length, body_stands};
-ghost use Rattle.wire.specs.Written.{Written, Wrote};
+ghost use Rattle.wire.specs.Written.{HasRoom, Puts, Written};
 
-use crate::fields::{key_at, u8_at, u32_at};
+use crate::fields::{array_at, key_at};
 use crate::key::Key;
 use crate::order::Order;
 use crate::orders::{Orders, well_formed};
-use crate::put::{put, put_u8, put_u32};
+use crate::put::Writer;
 use digest::sha256;
 
 // What a leader proposes: orders to follow those of the parent block.
@@ -20,17 +20,15 @@ pub struct Body {
     pub orders: Orders,
 }
 
-// Writes the orders, one after another, from place `at` on, and answers where they end.
-fn put_orders(out: &mut [u8], at: usize, orders: &[Order]) -> usize
-    requires { at + 8 * length orders.now ≤ length out.old }
-    ensures ends { result ≡ at + 8 * length orders.now }
-    ensures wrote { Wrote out.old at (flat_map order_bytes orders.now) result out.new }
+// Writes the orders, one after another.
+fn put_orders(out: &mut Writer<'_>, orders: &[Order])
+    requires { HasRoom (8 * length orders.now) out.old }
+    ensures ends { out.new.at ≡ out.old.at + 8 * length orders.now }
+    ensures wrote { Puts (flat_map order_bytes orders.now) out.old out.new }
 {
-    let mut end = at;
     for order in orders {
-        end = order.put(out, end);
+        order.put(out);
     }
-    end
 }
 
 impl Body {
@@ -46,18 +44,18 @@ impl Body {
         7 + self.parent.size() + 8 * self.orders.as_slice().len()
     }
 
-    // Writes the body from place `at` on, and answers where it ends.
-    pub(crate) fn put(&self, out: &mut [u8], at: usize) -> usize
-        requires { at + (43 + 8 * length (orders_of self.now.orders)) ≤ length out.old }
-        ensures ends { result ≡ at + (43 + 8 * length (orders_of self.now.orders)) }
-        ensures wrote { Wrote out.old at (body_bytes self.now) result out.new }
+    // Writes the body.
+    pub(crate) fn put(&self, out: &mut Writer<'_>)
+        requires { HasRoom (43 + 8 * length (orders_of self.now.orders)) out.old }
+        ensures ends { out.new.at ≡ out.old.at + (43 + 8 * length (orders_of self.now.orders)) }
+        ensures wrote { Puts (body_bytes self.now) out.old out.new }
     {
         let orders = self.orders.as_slice();
-        let after_mark = put(out, at, b"BD");
-        let after_view = put_u32(out, after_mark, self.view);
-        let after_parent = self.parent.put(out, after_view);
-        let after_count = put_u8(out, after_parent, orders.len() as u8);
-        put_orders(out, after_count, orders)
+        out.put(b"BD");
+        out.put(&self.view.to_be_bytes());
+        self.parent.put(out);
+        out.put(&[orders.len() as u8]);
+        put_orders(out, orders);
     }
 
     // Writes the body at the start of `out` and answers its length, unless there is too little room.
@@ -67,7 +65,9 @@ impl Body {
         if out.len() < self.size() {
             return None;
         }
-        Some(self.put(out, 0))
+        let mut writer = Writer::over(out);
+        self.put(&mut writer);
+        Some(writer.len())
     }
 
     // The digest of the body's bytes.
@@ -76,7 +76,7 @@ impl Body {
     {
         let mut bytes = [0; Self::LONGEST];
         let size = self.size();
-        self.put(&mut bytes, 0);
+        self.put(&mut Writer::over(&mut bytes));
         sha256(&bytes[0..size])
     }
 
@@ -96,9 +96,9 @@ impl Body {
         requires whole { length bytes.now ≡ body_length bytes.now }
         ensures { result ≡ body_in bytes.now }
     {
-        let count = u8_at(bytes, 42) as usize;
+        let count = bytes[42] as usize;
         Body {
-            view: u32_at(bytes, 2),
+            view: u32::from_be_bytes(array_at(bytes, 2)),
             parent: key_at(bytes, 6),
             orders: Orders::read(&bytes[43..bytes.len()], count),
         }

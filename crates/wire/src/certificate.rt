@@ -1,13 +1,14 @@
 ghost use Rattle.std.specs.Prelude.{◌≡◌, ◌+◌, ◌*◌, ◌^◌, ◌<◌, ◌≤◌, length, count_ones, nat_lt};
 ghost use Rattle.wire.specs.Format.{certificate_bytes, no_signers, origin_certificate, packed_below, signed};
 ghost use Rattle.wire.specs.Read.{certificate_in, certificate_length, certificate_stands, seals_in};
-ghost use Rattle.wire.specs.Written.{Written, Wrote};
+ghost use Rattle.wire.specs.Written.{HasRoom, Puts, Written};
 
-use crate::fields::{key_at, seal_at, u16_at};
+use crate::fields::{array_at, key_at};
 use crate::key::Key;
-use crate::put::{put, put_u16};
+use crate::put::Writer;
 
 // Consoles (bit i of `set` is console i) with the seal of each one's vote; other entries are zeros.
+// Stays: the format carries the set, and the core has no heap for a map of the signers alone.
 #[derive(Clone, Copy)]
 pub struct Signers {
     pub set: u16,
@@ -22,7 +23,7 @@ pub struct Certificate {
 }
 
 // Whether bit i of the set is one.
-pub(crate) fn has(set: u16, i: usize) -> bool
+fn has(set: u16, i: usize) -> bool
     requires { i < 16 }
     ensures { result ≡ signed set i }
 {
@@ -47,20 +48,18 @@ fn seals_size(set: u16, seals: &[[u8; 16]]) -> usize
     16 * count(set)
 }
 
-// Writes the signers' seals by rising number, from place `at` on, and answers where they end.
-fn put_seals(out: &mut [u8], at: usize, set: u16, seals: &[[u8; 16]]) -> usize
-    requires room { at + 16 * count_ones set ≤ length out.old }
+// Writes the signers' seals by rising number.
+fn put_seals(out: &mut Writer<'_>, set: u16, seals: &[[u8; 16]])
+    requires room { HasRoom (16 * count_ones set) out.old }
     requires sixteen { length seals.now ≡ 16 }
-    ensures ends { result ≡ at + 16 * count_ones set }
-    ensures wrote { Wrote out.old at (packed_below 16 set seals.now) result out.new }
+    ensures ends { out.new.at ≡ out.old.at + 16 * count_ones set }
+    ensures wrote { Puts (packed_below 16 set seals.now) out.old out.new }
 {
-    let mut end = at;
-    for i in 0..16 {
+    for (i, seal) in seals.iter().enumerate() {
         if has(set, i) {
-            end = put(out, end, &seals[i]);
+            out.put(seal);
         }
     }
-    end
 }
 
 // The seals of the signers, each at its signer's number, from where they stand by rising number.
@@ -72,7 +71,7 @@ fn seals_in(set: u16, bytes: &[u8]) -> [[u8; 16]; 16]
     let mut at = 0;
     for i in 0..16 {
         if has(set, i) {
-            seals[i] = seal_at(bytes, at);
+            seals[i] = array_at(bytes, at);
             at += 16;
         }
     }
@@ -80,14 +79,6 @@ fn seals_in(set: u16, bytes: &[u8]) -> [[u8; 16]; 16]
 }
 
 impl Signers {
-    // Whether the console has signed; none has a number above 15.
-    pub fn has(&self, console: u8) -> bool
-        ensures { result ≡ signed self.now.set console }
-    {
-        let set = self.set;
-        console < 16 && (set >> console) % 2 == 1
-    }
-
     // No console.
     pub fn none() -> Signers
         ensures { result ≡ no_signers }
@@ -96,6 +87,14 @@ impl Signers {
             set: 0,
             seals: [[0; 16]; 16],
         }
+    }
+
+    // Whether the console has signed; none has a number above 15.
+    pub fn has(&self, console: u8) -> bool
+        ensures { result ≡ signed self.now.set console }
+    {
+        let set = self.set;
+        console < 16 && has(set, console as usize)
     }
 }
 
@@ -119,16 +118,16 @@ impl Certificate {
         4 + self.block.size() + seals_size(self.signers.set, &self.signers.seals)
     }
 
-    // Writes the certificate from place `at` on, and answers where it ends.
-    pub(crate) fn put(&self, out: &mut [u8], at: usize) -> usize
-        requires { at + (40 + 16 * count_ones self.now.signers.set) ≤ length out.old }
-        ensures ends { result ≡ at + (40 + 16 * count_ones self.now.signers.set) }
-        ensures wrote { Wrote out.old at (certificate_bytes self.now) result out.new }
+    // Writes the certificate.
+    pub(crate) fn put(&self, out: &mut Writer<'_>)
+        requires { HasRoom (40 + 16 * count_ones self.now.signers.set) out.old }
+        ensures ends { out.new.at ≡ out.old.at + (40 + 16 * count_ones self.now.signers.set) }
+        ensures wrote { Puts (certificate_bytes self.now) out.old out.new }
     {
-        let after_mark = put(out, at, b"CT");
-        let after_block = self.block.put(out, after_mark);
-        let after_set = put_u16(out, after_block, self.signers.set);
-        put_seals(out, after_set, self.signers.set, &self.signers.seals)
+        out.put(b"CT");
+        self.block.put(out);
+        out.put(&self.signers.set.to_be_bytes());
+        put_seals(out, self.signers.set, &self.signers.seals);
     }
 
     // Writes the certificate at the start of `out` and answers its length, unless there is too little room.
@@ -138,7 +137,9 @@ impl Certificate {
         if out.len() < self.size() {
             return None;
         }
-        Some(self.put(out, 0))
+        let mut writer = Writer::over(out);
+        self.put(&mut writer);
+        Some(writer.len())
     }
 
     // The certificate in these bytes, which are as many as its number of signers gives.
@@ -146,7 +147,7 @@ impl Certificate {
         requires { length bytes.now ≡ certificate_length bytes.now }
         ensures { result ≡ certificate_in bytes.now }
     {
-        let set = u16_at(bytes, 38);
+        let set = u16::from_be_bytes(array_at(bytes, 38));
         let seals = seals_in(set, &bytes[40..bytes.len()]);
         Certificate {
             block: key_at(bytes, 2),

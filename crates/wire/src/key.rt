@@ -1,8 +1,8 @@
 ghost use Rattle.std.specs.Prelude.{◌≡◌, ◌+◌, ◌≤◌, length, Decides};
 ghost use Rattle.wire.specs.Format.{key_bytes, origin, same_key};
-ghost use Rattle.wire.specs.Written.{Wrote};
+ghost use Rattle.wire.specs.Written.{HasRoom, Puts};
 
-use crate::put::{put, put_u32};
+use crate::put::Writer;
 
 // A block is known by its view and its name, the digest of its body's bytes.
 #[derive(Clone, Copy, PartialEq, Eq)]
@@ -13,6 +13,7 @@ pub struct Key {
 
 impl Key {
     // The block before the first.
+    // Stays: it is named for what it is in the format; a derived `default` would say only that its fields are zeros.
     pub fn origin() -> Key
         ensures { result ≡ origin }
     {
@@ -31,13 +32,13 @@ impl Key {
         4 + name.len()
     }
 
-    // Writes view and name from place `at` on, and answers where they end.
-    pub(crate) fn put(&self, out: &mut [u8], at: usize) -> usize
-        requires { at + 36 ≤ length out.old }
-        ensures ends { result ≡ at + 36 }
-        ensures wrote { Wrote out.old at (key_bytes self.now) result out.new }
+    // Writes view and name.
+    pub(crate) fn put(&self, out: &mut Writer<'_>)
+        requires { HasRoom 36 out.old }
+        ensures ends { out.new.at ≡ out.old.at + 36 }
+        ensures wrote { Puts (key_bytes self.now) out.old out.new }
     {
-        let after_view = put_u32(out, at, self.view);
-        put(out, after_view, &self.name)
+        out.put(&self.view.to_be_bytes());
+        out.put(&self.name);
     }
 }

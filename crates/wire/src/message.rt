@@ -1,12 +1,14 @@
 ghost use Rattle.std.specs.Prelude.{◌≡◌, ◌+◌, ◌*◌, ◌≤◌, length, count_ones};
 ghost use Rattle.wire.specs.Format.{orders_of, proposal_bytes, vote_bytes};
+ghost use Rattle.wire.specs.Parts.{message_of};
 ghost use Rattle.wire.specs.Read.{proposal_stands, vote_stands};
 ghost use Rattle.wire.specs.Written.{Written};
 
 use crate::body::Body;
 use crate::certificate::Certificate;
 use crate::key::Key;
-use crate::put::{put, put_u8};
+use crate::put::Writer;
+use crate::reading::Reading;
 
 // A body with a certificate for its parent and the leader's seal.
 #[derive(Clone, Copy)]
@@ -30,6 +32,18 @@ pub enum Message {
     Vote(Vote),
 }
 
+// The message that was read, without its parts.
+impl From<Reading<'_>> for Message {
+    ghost from_gives = { λ reading message. message ≡ message_of reading };
+
+    fn from(reading: Reading<'_>) -> Message {
+        match reading {
+            Reading::Proposal { value, .. } => Message::Proposal(value),
+            Reading::Vote { value, .. } => Message::Vote(value),
+        }
+    }
+}
+
 impl Proposal {
     // The length of the longest proposal.
     pub const LONGEST: usize = 421;
@@ -51,14 +65,14 @@ impl Proposal {
         if out.len() < self.size() {
             return None;
         }
-        let after_mark = put(out, 0, b"PR");
-        let after_body = self.body.put(out, after_mark);
-        let after_certificate = self.certificate.put(out, after_body);
-        Some(put(out, after_certificate, &self.seal))
+        let mut writer = Writer::over(out);
+        writer.put(b"PR");
+        self.body.put(&mut writer);
+        self.certificate.put(&mut writer);
+        writer.put(&self.seal);
+        Some(writer.len())
     }
-}
 
-impl Proposal {
     // Whether body and certificate are well-formed and the certificate is the parent's.
     pub(crate) fn stands(&self, n: u8) -> bool
         ensures { result ≡ proposal_stands n self.now }
@@ -80,17 +94,28 @@ impl Vote {
     // The length of a vote.
     pub const LENGTH: usize = 55;
 
+    // The vote's bytes.
+    pub fn bytes(&self) -> [u8; 55]
+        ensures { result ≡ vote_bytes self.now }
+    {
+        let mut bytes = [0; 55];
+        let mut writer = Writer::over(&mut bytes);
+        writer.put(b"VT");
+        self.block.put(&mut writer);
+        writer.put(&self.voter.to_be_bytes());
+        writer.put(&self.seal);
+        bytes
+    }
+
     // Writes the vote at the start of `out` and answers its length, unless there is too little room.
     pub fn write(&self, out: &mut [u8]) -> Option<usize>
         ensures { Written (vote_bytes self.now) out.old result out.new }
     {
-        let seal: &[u8] = &self.seal;
-        if out.len() < 3 + self.block.size() + seal.len() {
+        let bytes = self.bytes();
+        if out.len() < bytes.len() {
             return None;
         }
-        let after_mark = put(out, 0, b"VT");
-        let after_block = self.block.put(out, after_mark);
-        let after_voter = put_u8(out, after_block, self.voter);
-        Some(put(out, after_voter, seal))
+        out[0..bytes.len()].copy_from_slice(&bytes);
+        Some(bytes.len())
     }
 }

@@ -1,11 +1,11 @@
 ghost use Rattle.std.specs.Prelude.{◌≡◌, ◌+◌, ◌≤◌, ◌++◌, length};
 ghost use Rattle.wire.specs.Bytes.{be};
 ghost use Rattle.wire.specs.Format.{order_bytes, place_stands, well_formed};
-ghost use Rattle.wire.specs.Read.{order_in};
-ghost use Rattle.wire.specs.Written.{Wrote};
+ghost use Rattle.wire.specs.Read.{fields_in, order_in, order_of};
+ghost use Rattle.wire.specs.Written.{HasRoom, Puts};
 
-use crate::fields::{marked, u16_at};
-use crate::put::{put, put_u16};
+use crate::fields::array_at;
+use crate::put::Writer;
 
 // One order to a truck. The numbers may be ill-formed: `well_formed` in `specs/Format.antt` says which are not.
 #[derive(Clone, Copy)]
@@ -16,6 +16,52 @@ pub enum Order {
     Release { truck: u16 },
     // the truck brought a load to the place, in tenths of a tonne
     Load { truck: u16, place: u16, amount: u16 },
+}
+
+// The mark and the three numbers of an order's bytes.
+#[derive(Clone, Copy)]
+struct Fields {
+    mark: [u8; 2],
+    truck: u16,
+    place: u16,
+    amount: u16,
+}
+
+impl Fields {
+    // What stands in these eight bytes.
+    fn read(bytes: &[u8]) -> Fields
+        requires { length bytes.now ≡ 8 }
+        ensures { result ≡ fields_in bytes.now }
+    {
+        Fields {
+            mark: array_at(bytes, 0),
+            truck: u16::from_be_bytes(array_at(bytes, 2)),
+            place: u16::from_be_bytes(array_at(bytes, 4)),
+            amount: u16::from_be_bytes(array_at(bytes, 6)),
+        }
+    }
+
+    // The order, or `Order::BLANK`.
+    fn order(&self) -> Order
+        ensures { result ≡ order_of self.now }
+    {
+        let Fields {
+            mark,
+            truck,
+            place,
+            amount,
+        } = *self;
+        match &mark {
+            b"SD" if amount == 0 => Order::Send { truck, place },
+            b"RL" if place == 0 && amount == 0 => Order::Release { truck },
+            b"LD" => Order::Load {
+                truck,
+                place,
+                amount,
+            },
+            _ => Order::BLANK,
+        }
+    }
 }
 
 // Whether there is such a place.
@@ -45,31 +91,46 @@ impl Order {
     }
 
     // Mark, truck, place and amount.
-    fn fields(&self) -> ([u8; 2], u16, u16, u16)
-        ensures { order_bytes self.now ≡ result.0 ++ (be 2 result.1 ++ (be 2 result.2 ++ be 2 result.3)) }
+    fn fields(&self) -> Fields
+        ensures { order_bytes self.now ≡ result.mark ++ (be 2 result.truck ++ (be 2 result.place ++ be 2 result.amount)) }
     {
         match *self {
-            Order::Send { truck, place } => (*b"SD", truck, place, 0),
-            Order::Release { truck } => (*b"RL", truck, 0, 0),
+            Order::Send { truck, place } => Fields {
+                mark: *b"SD",
+                truck,
+                place,
+                amount: 0,
+            },
+            Order::Release { truck } => Fields {
+                mark: *b"RL",
+                truck,
+                place: 0,
+                amount: 0,
+            },
             Order::Load {
                 truck,
                 place,
                 amount,
-            } => (*b"LD", truck, place, amount),
+            } => Fields {
+                mark: *b"LD",
+                truck,
+                place,
+                amount,
+            },
         }
     }
 
-    // Writes the order from place `at` on, and answers where it ends.
-    pub(crate) fn put(&self, out: &mut [u8], at: usize) -> usize
-        requires { at + 8 ≤ length out.old }
-        ensures wrote { Wrote out.old at (order_bytes self.now) result out.new }
-        ensures ends { result ≡ at + 8 }
+    // Writes the order.
+    pub(crate) fn put(&self, out: &mut Writer<'_>)
+        requires { HasRoom 8 out.old }
+        ensures wrote { Puts (order_bytes self.now) out.old out.new }
+        ensures ends { out.new.at ≡ out.old.at + 8 }
     {
-        let (mark, truck, place, amount) = self.fields();
-        let after_mark = put(out, at, &mark);
-        let after_truck = put_u16(out, after_mark, truck);
-        let after_place = put_u16(out, after_truck, place);
-        put_u16(out, after_place, amount)
+        let fields = self.fields();
+        out.put(&fields.mark);
+        out.put(&fields.truck.to_be_bytes());
+        out.put(&fields.place.to_be_bytes());
+        out.put(&fields.amount.to_be_bytes());
     }
 
     // The order in these eight bytes, or `BLANK`.
@@ -77,21 +138,6 @@ impl Order {
         requires { length bytes.now ≡ 8 }
         ensures { result ≡ order_in bytes.now }
     {
-        let truck = u16_at(bytes, 2);
-        let place = u16_at(bytes, 4);
-        let amount = u16_at(bytes, 6);
-        if marked(bytes, b'S', b'D') && amount == 0 {
-            Order::Send { truck, place }
-        } else if marked(bytes, b'R', b'L') && place == 0 && amount == 0 {
-            Order::Release { truck }
-        } else if marked(bytes, b'L', b'D') {
-            Order::Load {
-                truck,
-                place,
-                amount,
-            }
-        } else {
-            Order::BLANK
-        }
+        Fields::read(bytes).order()
     }
 }

@@ -6,6 +6,7 @@ use crate::order::Order;
 
 // Up to eight orders, the first `count` of `list`. Whoever builds one fills the spare places with
 // `Order::BLANK`, so that equal orders are equal values.
+// Stays: the core has no heap, so the list is an array with its length.
 #[derive(Clone, Copy)]
 pub struct Orders {
     list: [Order; 8],
@@ -60,10 +61,5 @@ impl Orders {
 pub fn well_formed(orders: &[Order]) -> bool
     ensures { result ≡ all_well_formed orders.now }
 {
-    for order in orders {
-        if !order.is_well_formed() {
-            return false;
-        }
-    }
-    true
+    orders.iter().all(|order| order.is_well_formed())
 }

@@ -1,40 +1,38 @@
 ghost use Rattle.std.specs.Prelude.{◌≡◌, ℕ, ◌+◌, ◌≤◌, length};
-ghost use Rattle.wire.specs.Bytes.{be};
-ghost use Rattle.wire.specs.Written.{Wrote};
+ghost use Rattle.wire.specs.Written.{HasRoom, Puts};
 
-// Writes `part` from place `at` on, and answers where it ends.
-pub(crate) fn put(out: &mut [u8], at: usize, part: &[u8]) -> usize
-    requires { at + length part.now ≤ length out.old }
-    ensures { Wrote out.old at part.now result out.new }
-{
-    let end = at + part.len();
-    out[at..end].copy_from_slice(part);
-    end
+// Bytes that are lent to be written, and the place where the next part goes.
+#[derive(Drop)]
+pub(crate) struct Writer<'a> {
+    out: &'a mut [u8],
+    at: usize,
 }
 
-// Writes a number of one byte.
-pub(crate) fn put_u8(out: &mut [u8], at: usize, v: u8) -> usize
-    requires { at + 1 ≤ length out.old }
-    ensures ends { result ≡ at + 1 }
-    ensures wrote { Wrote out.old at (be 1 v) result out.new }
-{
-    put(out, at, &v.to_be_bytes())
-}
+impl<'a> Writer<'a> {
+    // Writes from the start on.
+    pub(crate) fn over(out: &'a mut [u8]) -> Self
+        ensures start { result.at ≡ 0 }
+        ensures bytes { result.out.now ≡ out.old }
+        ensures lent { result.out.ghost_name ≡ out.entry.ghost_name }
+    {
+        Writer { out, at: 0 }
+    }
 
-// Writes a number of two bytes.
-pub(crate) fn put_u16(out: &mut [u8], at: usize, v: u16) -> usize
-    requires { at + 2 ≤ length out.old }
-    ensures ends { result ≡ at + 2 }
-    ensures wrote { Wrote out.old at (be 2 v) result out.new }
-{
-    put(out, at, &v.to_be_bytes())
-}
+    // How many bytes have been written.
+    pub(crate) fn len(&self) -> usize
+        ensures { result ≡ self.now.at }
+    {
+        self.at
+    }
 
-// Writes a number of four bytes.
-pub(crate) fn put_u32(out: &mut [u8], at: usize, v: u32) -> usize
-    requires { at + 4 ≤ length out.old }
-    ensures ends { result ≡ at + 4 }
-    ensures wrote { Wrote out.old at (be 4 v) result out.new }
-{
-    put(out, at, &v.to_be_bytes())
+    // Writes the next part.
+    pub(crate) fn put(&mut self, part: &[u8])
+        requires { HasRoom (length part.now) self.old }
+        ensures { Puts part.now self.old self.new }
+    {
+        let at = self.at;
+        let end = at + part.len();
+        self.out[at..end].copy_from_slice(part);
+        self.at = end;
+    }
 }

@@ -1,12 +1,12 @@
 // A datagram told apart, with the places of its parts.
 ghost use Rattle.std.specs.Prelude.{◌≡◌, ◌+◌, ◌^◌, ◌<◌, ◌≤◌, ◌&&◌, length, take, drop, codes};
 ghost use Rattle.wire.specs.Bytes.{number};
-ghost use Rattle.wire.specs.Parts.{Lengths, Parted, StandsAt, Told, outcome};
+ghost use Rattle.wire.specs.Parts.{Lengths, Parted, StandsAt, outcome};
 ghost use Rattle.wire.specs.Read.{body_in, body_length, certificate_in, certificate_length, marked, read, read_proposal, read_vote};
 
 use crate::body::Body;
 use crate::certificate::{Certificate, count};
-use crate::fields::{key_at, marked, seal_at, u8_at, u16_at};
+use crate::fields::{array_at, key_at};
 use crate::message::{Proposal, Vote};
 use crate::unreadable::Unreadable;
 
@@ -32,12 +32,19 @@ pub enum Reading<'a> {
     },
 }
 
-// The two kinds of message, with the bytes after the mark.
+// How many bytes a proposal's body and certificate take.
 #[derive(Clone, Copy)]
-enum Kind<'a> {
-    Proposal(&'a [u8]),
-    Vote(&'a [u8]),
-    Neither,
+struct Sizes {
+    body: usize,
+    certificate: usize,
+}
+
+// The parts of a proposal after its mark.
+#[derive(Clone, Copy)]
+struct Parts<'a> {
+    body: Part<'a>,
+    certificate: Part<'a>,
+    seal: Part<'a>,
 }
 
 // What is left of a datagram, and the place where that begins.
@@ -71,65 +78,71 @@ impl<'a> Reader<'a> {
 }
 
 // The lengths of body and certificate, if the bytes after a proposal's mark are as many as its counts give.
-fn lengths(bytes: &[u8]) -> Option<(usize, usize)>
+fn lengths(bytes: &[u8]) -> Result<Sizes, Unreadable>
     ensures { Lengths bytes.now result }
 {
     if bytes.len() < 43 {
-        return None;
+        return Err(Unreadable::Length);
     }
-    let orders = u8_at(bytes, 42) as usize;
+    let orders = bytes[42] as usize;
     if orders > 8 {
-        return None;
+        return Err(Unreadable::Length);
     }
     let body = 43 + 8 * orders;
     if bytes.len() < body + 40 {
-        return None;
+        return Err(Unreadable::Length);
     }
     let past = &bytes[body..bytes.len()];
-    let certificate = 40 + 16 * count(u16_at(past, 38));
+    let certificate = 40 + 16 * count(u16::from_be_bytes(array_at(past, 38)));
     if past.len() != certificate + 16 {
-        return None;
+        return Err(Unreadable::Length);
     }
-    Some((body, certificate))
+    Ok(Sizes { body, certificate })
 }
 
 // Body, certificate and seal, one after another, of a proposal whose mark has been read.
-fn split(bytes: &[u8], body: usize, certificate: usize) -> (Part<'_>, Part<'_>, Part<'_>)
-    requires whole { length bytes.now ≡ body + certificate + 16 }
-    requires fits { body + certificate < 1000 }
-    ensures body { StandsAt 2 (take body bytes.now) result.0 }
-    ensures certificate { StandsAt (2 + body) (take certificate (drop body bytes.now)) result.1 }
-    ensures seal { StandsAt (2 + body + certificate) (drop certificate (drop body bytes.now)) result.2 }
+fn split(bytes: &[u8], sizes: Sizes) -> Parts<'_>
+    requires whole { length bytes.now ≡ sizes.body + sizes.certificate + 16 }
+    requires fits { sizes.body + sizes.certificate < 1000 }
+    ensures body { StandsAt 2 (take sizes.body bytes.now) result.body }
+    ensures certificate { StandsAt (2 + sizes.body) (take sizes.certificate (drop sizes.body bytes.now)) result.certificate }
+    ensures seal { StandsAt (2 + sizes.body + sizes.certificate) (drop sizes.certificate (drop sizes.body bytes.now)) result.seal }
 {
     let mut reader = Reader { rest: bytes, at: 2 };
-    let first = reader.next(body);
-    let second = reader.next(certificate);
-    let third = reader.next(16);
-    (first, second, third)
-}
-
-// The proposal in its three parts.
-fn decode(body: &[u8], certificate: &[u8], seal: &[u8]) -> Proposal
-    requires few { number 42 1 body.now ≤ 8 }
-    requires body { length body.now ≡ body_length body.now }
-    requires certificate { length certificate.now ≡ certificate_length certificate.now }
-    requires seal { length seal.now ≡ 16 }
-    ensures body { result.body ≡ body_in body.now }
-    ensures certificate { result.certificate ≡ certificate_in certificate.now }
-    ensures seal { result.seal ≡ seal.now }
-{
-    Proposal {
-        body: Body::read(body),
-        certificate: Certificate::read(certificate),
-        seal: seal_at(seal, 0),
+    let body = reader.next(sizes.body);
+    let certificate = reader.next(sizes.certificate);
+    let seal = reader.next(16);
+    Parts {
+        body,
+        certificate,
+        seal,
     }
 }
 
-// Whether body and certificate open with their marks.
-fn inner_marks(body: &[u8], certificate: &[u8]) -> bool
-    ensures { result ≡ (marked (codes "BD") body.now && marked (codes "CT") certificate.now) }
-{
-    marked(body, b'B', b'D') && marked(certificate, b'C', b'T')
+impl Parts<'_> {
+    // The proposal in its three parts.
+    fn decode(&self) -> Proposal
+        requires few { number 42 1 self.now.body.bytes.now ≤ 8 }
+        requires body { length self.now.body.bytes.now ≡ body_length self.now.body.bytes.now }
+        requires certificate { length self.now.certificate.bytes.now ≡ certificate_length self.now.certificate.bytes.now }
+        requires seal { length self.now.seal.bytes.now ≡ 16 }
+        ensures body { result.body ≡ body_in self.now.body.bytes.now }
+        ensures certificate { result.certificate ≡ certificate_in self.now.certificate.bytes.now }
+        ensures seal { result.seal ≡ self.now.seal.bytes.now }
+    {
+        Proposal {
+            body: Body::read(self.body.bytes),
+            certificate: Certificate::read(self.certificate.bytes),
+            seal: array_at(self.seal.bytes, 0),
+        }
+    }
+
+    // Whether body and certificate open with their marks.
+    fn are_marked(&self) -> bool
+        ensures { result ≡ (marked (codes "BD") self.now.body.bytes.now && marked (codes "CT") self.now.certificate.bytes.now) }
+    {
+        self.body.bytes.starts_with(b"BD") && self.certificate.bytes.starts_with(b"CT")
+    }
 }
 
 // The proposal in the bytes after its mark.
@@ -137,21 +150,19 @@ fn read_proposal(n: u8, bytes: &[u8]) -> Result<Reading<'_>, Unreadable>
     ensures message { outcome result ≡ read_proposal n bytes.now }
     ensures parts { Parted bytes.now result }
 {
-    let Some((body_length, certificate_length)) = lengths(bytes) else {
-        return Err(Unreadable::Length);
-    };
-    let (body, certificate, seal) = split(bytes, body_length, certificate_length);
-    let value = decode(body.bytes, certificate.bytes, seal.bytes);
-    if !inner_marks(body.bytes, certificate.bytes) {
+    let sizes = lengths(bytes)?;
+    let parts = split(bytes, sizes);
+    let value = parts.decode();
+    if !parts.are_marked() {
         return Err(Unreadable::Form);
     }
     if !value.stands(n) {
         return Err(Unreadable::Form);
     }
     Ok(Reading::Proposal {
-        body,
-        certificate,
-        seal,
+        body: parts.body,
+        certificate: parts.certificate,
+        seal: parts.seal,
         value,
     })
 }
@@ -165,7 +176,7 @@ fn read_vote(n: u8, bytes: &[u8]) -> Result<Reading<'_>, Unreadable>
         return Err(Unreadable::Length);
     }
     let block = key_at(bytes, 0);
-    let voter = u8_at(bytes, 36);
+    let voter = bytes[36];
     let seal = Reader {
         rest: &bytes[37..53],
         at: 39,
@@ -174,7 +185,7 @@ fn read_vote(n: u8, bytes: &[u8]) -> Result<Reading<'_>, Unreadable>
     let value = Vote {
         block,
         voter,
-        seal: seal_at(seal.bytes, 0),
+        seal: array_at(seal.bytes, 0),
     };
     if value.stands(n) {
         Ok(Reading::Vote { seal, value })
@@ -183,25 +194,14 @@ fn read_vote(n: u8, bytes: &[u8]) -> Result<Reading<'_>, Unreadable>
     }
 }
 
-// The kind of a datagram, by its mark, and the bytes after that.
-fn told(datagram: &[u8]) -> Kind<'_>
-    ensures { Told datagram.now result }
-{
-    match datagram {
-        [b'P', b'R', rest @ ..] => Kind::Proposal(rest),
-        [b'V', b'T', rest @ ..] => Kind::Vote(rest),
-        _ => Kind::Neither,
-    }
-}
-
 // The message in a datagram, in a pit of n consoles, or the first ground to refuse it.
 pub fn read(n: u8, datagram: &[u8]) -> Result<Reading<'_>, Unreadable>
     ensures message { outcome result ≡ read n datagram.now }
     ensures parts { Parted (drop 2 datagram.now) result }
 {
-    match told(datagram) {
-        Kind::Proposal(rest) => read_proposal(n, rest),
-        Kind::Vote(rest) => read_vote(n, rest),
-        Kind::Neither => Err(Unreadable::Mark),
+    match datagram {
+        [b'P', b'R', rest @ ..] => read_proposal(n, rest),
+        [b'V', b'T', rest @ ..] => read_vote(n, rest),
+        _ => Err(Unreadable::Mark),
     }
 }

@@ -1,5 +1,5 @@
 -- Messages and their bytes determine one another.
-use Rattle.std.proofs.Common.{◌≡◌, ℕ, ◌+◌, ◌-◌, ◌*◌, ◌<◌, ◌≤◌, Bool, true, false, ◌&&◌, eqb, List, ◌++◌, length, get_or, take, drop, Some, Ok, codes, Result, sym, refl, ap, ◌∙◌, arith, eqb-true}
+use Rattle.std.proofs.Common.{◌≡◌, ℕ, ◌+◌, ◌-◌, ◌*◌, ◌<◌, ◌≤◌, Bool, true, false, ◌&&◌, eqb, List, ◌++◌, length, get_or, take, drop, Ok, codes, Result, sym, refl, ap, ◌∙◌, arith, eqb-true}
 use lib.Count.{ones, ones-le}
 use Rattle.std.proofs.ByRecursion.{All-take, All-drop}
 use Rattle.std.proofs.lemmas.List.{take-append-drop, take-append-le, drop-append-le, take_all, take_at, drop_at, drop-drop, length-append, length-drop}
@@ -111,7 +111,7 @@ message_forth n (message.Vote v) h = vote_forth n v h.0 h.1
 
 -- Bytes first.
 
-lengths_of : (bs : List ℕ) → Octets bs → proposal_fits bs ≡ true → Lengths bs (Some (body_length bs, certificate_length (past_body bs)))
+lengths_of : (bs : List ℕ) → Octets bs → proposal_fits bs ≡ true → Lengths bs (Ok (record { body = body_length bs; certificate = certificate_length (past_body bs) }))
 unfolding proposal_fits
 lengths_of bs o f =
     let d = length-drop (body_length bs) bs in

@@ -1,18 +1,19 @@
-use Rattle.std.proofs.Common.{◌≡◌, ℕ, ◌<◌, sym, refl, ap, ◌∙◌, arith, rules}
+use Rattle.std.proofs.Common.{◌≡◌, ℕ, ◌<◌, sym, ap, ◌∙◌, arith, rules}
 use Rattle.wire.specs.Format.{packed_below}
+use Rattle.wire.specs.declared.put.Writer.{Writer}
 use Rattle.wire.proofs.Signing.{before, before_none, before-all, before_in, before_out, before_signer, packed_in, packed_out}
-use Rattle.wire.proofs.Writing.{wrote_as, wrote_is, wrote_none, wrote_then}
+use Rattle.wire.proofs.Writing.{puts_as, puts_is, puts_none, puts_then}
 use Rattle.wire.proofs.certificate.put_seals.Goals as goal
 use Rattle.wire.proofs.certificate.put_seals.Goals.{then-has, else-has}
 
 pub loop-i-init : goal.loop-i-init
 unfolding packed_below
-loop-i-init c = let n = before_none c.args.set in (omega arith, refl, wrote_none _ _)
+loop-i-init c = let n = before_none c.args.set in (omega arith, puts_none _)
 
-pub put-end-requires : goal.put-end-requires
-put-end-requires c =
+pub put-requires : goal.put-requires
+put-requires c =
     let set : c.args.set < 65536 = search rules in
-    let more = before_signer c.args.set c.loop-i.i set c.loop-i-test.true (sym c.if-has.ensures) in
+    let more = before_signer c.args.set c.loop-i.i set (omega arith) (sym c.if-has.ensures) in
     let seal = c.told-seals c.loop-i.i (omega arith) in
     omega arith
 
@@ -22,20 +23,19 @@ loop-i-preserved c =
       | then-has w ↦
           let s = sym c.has.ensures ∙ w.if-has.true in
           let more = before_in c.args.set c.loop-i.i s in
-          let seal = c.told-seals c.loop-i.i (omega arith) in (
-            omega (arith, w.end-is, w.put-end.ensures.ends),
-            search rules,
-            wrote_is w.end-is w.out-is
-                (wrote_as (packed_in c.args.set c.args.seals.now c.loop-i.i s)
-                (wrote_then c.loop-i.invariant.2 w.put-end.ensures)),
+          let seal = c.told-seals c.loop-i.i (omega arith) in
+          let at = ap (λ (x : Writer). x.at) w.out-is in (
+            omega (arith, at, w.put.ensures.wrote.ends),
+            puts_is w.out-is
+                (puts_as (packed_in c.args.set c.args.seals.now c.loop-i.i s)
+                (puts_then c.loop-i.invariant.1 w.put.ensures)),
           )
       | else-has w ↦
           let s = sym c.has.ensures ∙ w.if-has.false in
-          let more = before_out c.args.set c.loop-i.i s in (
-            omega (arith, w.end-is),
-            search rules,
-            wrote_is w.end-is w.out-is
-                (wrote_as (packed_out c.args.set c.args.seals.now c.loop-i.i s) c.loop-i.invariant.2),
+          let more = before_out c.args.set c.loop-i.i s in
+          let at = ap (λ (x : Writer). x.at) w.out-is in (
+            omega (arith, at),
+            puts_is w.out-is (puts_as (packed_out c.args.set c.args.seals.now c.loop-i.i s) c.loop-i.invariant.1),
           )
     ]
 
@@ -47,5 +47,5 @@ returns c =
     let n = ap (before c.args.set) end in
     record {
       ends = omega arith;
-      wrote = wrote_as (ap (λ (j : ℕ). packed_below j c.args.set c.args.seals.now) end) c.loop-i.invariant.2;
+      wrote = puts_as (ap (λ (j : ℕ). packed_below j c.args.set c.args.seals.now) end) c.loop-i.invariant.1;
     }

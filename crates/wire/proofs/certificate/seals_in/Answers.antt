@@ -8,8 +8,8 @@ use Rattle.wire.proofs.certificate.seals_in.Goals.{then-has, else-has}
 pub loop-i-init : goal.loop-i-init
 loop-i-init c = let n = before_none c.args.set in (omega arith, refl)
 
-pub seal_at-requires : goal.seal_at-requires
-seal_at-requires c =
+pub array_at-requires : goal.array_at-requires
+array_at-requires c =
     let set : c.args.set < 65536 = search rules in
     let more = before_signer c.args.set c.loop-i.i set c.loop-i-test.true (sym c.if-has.ensures) in
     omega arith
@@ -23,7 +23,7 @@ loop-i-preserved c =
             omega (arith, w.at-is),
             w.seals-is ∙
                 spread_in c.args.set c.args.bytes.now c.loop-i.i c.loop-i-test.true _ _ s
-                (w.seal_at.ensures ∙ ap (λ (at : ℕ). field at 16 c.args.bytes.now) c.loop-i.invariant.0) c.loop-i.invariant.1,
+                (w.array_at.ensures ∙ ap (λ (at : ℕ). field at 16 c.args.bytes.now) c.loop-i.invariant.0) c.loop-i.invariant.1,
           )
       | else-has w ↦
           let s = sym c.has.ensures ∙ w.if-has.false in

@@ -1,19 +1,11 @@
-use Rattle.std.proofs.Common.{◌≤◌, length, arith}
-use Rattle.std.proofs.lemmas.List.{at_drop_more, at_drop_all}
-use Rattle.wire.specs.declared.order.Order.TheVariants.{Send}
+use Rattle.std.proofs.Common.{rules, tests}
+use Rattle.std.proofs.lemmas.Iterator.{YieldsList-from_slice}
+use Rattle.std.proofs.lemmas.Iterator.Search.{all_from_yields_List}
+use Rattle.wire.specs.Format.{well_formed}
 use Rattle.wire.specs.Read.{all_well_formed}
 use Rattle.wire.proofs.orders.well_formed.Goals as goal
-
-pub returns-then-not-is_well_formed : goal.returns-then-not-is_well_formed
-unfolding all_well_formed
-returns-then-not-is_well_formed c = let s = at_drop_more all_well_formed c.args.orders.now c.loop-order.order-index (Send 0 0) c.loop-order-test.true in grind arith
-
-pub loop-order-preserved : goal.loop-order-preserved
-unfolding all_well_formed
-loop-order-preserved c = let s = at_drop_more all_well_formed c.args.orders.now c.loop-order.order-index (Send 0 0) c.loop-order-test.true in grind arith
 
 pub returns : goal.returns
 unfolding all_well_formed
 returns c =
-    let all : length c.args.orders.now ≤ c.loop-order.order-index = omega arith in
-    let s = at_drop_all all_well_formed c.args.orders.now c.loop-order.order-index all in grind arith
+    all_from_yields_List well_formed _ _ _ c.all.ensures.ran (YieldsList-from_slice c.args.orders.now cc) (λ x b q h. search (rules, tests))

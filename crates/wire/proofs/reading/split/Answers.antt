@@ -4,11 +4,11 @@ use Rattle.wire.proofs.reading.split.Goals as goal
 
 pub returns : goal.returns
 returns c =
-    let one = c.next-first.ensures.rest in
-    let two = c.next-second.ensures.rest ∙ ap (drop c.args.certificate) one in
-    let sixteen : length c.next-second.new.self.rest.now ≤ 16 = omega arith in
+    let one = c.next-body.ensures.rest in
+    let two = c.next-certificate.ensures.rest ∙ ap (drop c.args.sizes.certificate) one in
+    let sixteen : length c.next-certificate.new.self.rest.now ≤ 16 = omega arith in
     record {
-      body = (c.next-first.ensures.offset, c.next-first.ensures.bytes);
-      certificate = (omega arith, c.next-second.ensures.bytes ∙ ap (take c.args.certificate) one);
-      seal = (omega arith, c.next-third.ensures.bytes ∙ (take_all 16 _ sixteen ∙ two));
+      body = (c.next-body.ensures.offset, c.next-body.ensures.bytes);
+      certificate = (omega arith, c.next-certificate.ensures.bytes ∙ ap (take c.args.sizes.certificate) one);
+      seal = (omega arith, c.next-seal.ensures.bytes ∙ (take_all 16 _ sixteen ∙ two));
     }

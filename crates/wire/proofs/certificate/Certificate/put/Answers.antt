@@ -1,6 +1,7 @@
-use Rattle.std.proofs.Common.{arith}
+use Rattle.std.proofs.Common.{sym, ◌∙◌, arith}
 use Rattle.wire.specs.Format.{certificate_bytes}
-use Rattle.wire.proofs.Writing.{wrote_then}
+use Rattle.wire.proofs.Numbers.{be_2}
+use Rattle.wire.proofs.Writing.{puts_as, puts_then}
 use Rattle.wire.proofs.certificate.Certificate.put.Goals as goal
 
 pub returns : goal.returns
@@ -8,7 +9,7 @@ unfolding certificate_bytes
 returns c =
     record {
       ends = omega arith;
-      wrote = wrote_then c.put-after_mark.ensures
-          (wrote_then c.put-after_block.ensures.wrote
-          (wrote_then c.put_u16-after_set.ensures.wrote c.put_seals.ensures.wrote));
+      wrote = puts_then c.put.ensures
+          (puts_then c.put-2.ensures.wrote
+          (puts_then (puts_as (c.to_be_bytes.ensures ∙ sym (be_2 c.args.self.now.signers.set)) c.put-3.ensures) c.put_seals.ensures.wrote));
     }

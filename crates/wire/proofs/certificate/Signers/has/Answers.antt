@@ -1,4 +1,4 @@
-use Rattle.std.proofs.Common.{◌<◌, sym, ◌∙◌, arith, rules}
+use Rattle.std.proofs.Common.{sym, ◌∙◌, rules}
 use Rattle.std.proofs.lemmas.Bool.{le-ltb}
 use Rattle.wire.proofs.Signing.{none_above}
 use Rattle.wire.proofs.certificate.Signers.has.Goals as goal

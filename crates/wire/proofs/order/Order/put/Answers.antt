@@ -1,13 +1,15 @@
-use Rattle.std.proofs.Common.{sym, rules}
-use Rattle.wire.proofs.Writing.{wrote_as, wrote_then}
+use Rattle.std.proofs.Common.{sym, ◌∙◌, rules}
+use Rattle.wire.proofs.Numbers.{be_2}
+use Rattle.wire.proofs.Writing.{puts_as, puts_then}
 use Rattle.wire.proofs.order.Order.put.Goals as goal
 
 pub returns : goal.returns
 returns c =
     record {
-      wrote = wrote_as (sym c.fields-truck.ensures)
-          (wrote_then c.put-after_mark.ensures
-          (wrote_then c.put_u16-after_truck.ensures.wrote
-          (wrote_then c.put_u16-after_place.ensures.wrote c.put_u16.ensures.wrote)));
+      wrote = puts_as (sym c.fields-fields.ensures)
+          (puts_then c.put.ensures
+          (puts_then (puts_as (c.to_be_bytes.ensures ∙ sym (be_2 _)) c.put-2.ensures)
+          (puts_then (puts_as (c.to_be_bytes-2.ensures ∙ sym (be_2 _)) c.put-3.ensures)
+          (puts_as (c.to_be_bytes-3.ensures ∙ sym (be_2 _)) c.put-4.ensures))));
       ends = search rules;
     }
