@@ -1,7 +1,8 @@
 -- Orders read one after another.
-use Rattle.std.proofs.Common.{◌≡◌, ℕ, zero, suc, ◌+◌, ◌-◌, ◌*◌, ◌<◌, List, [], ◌∷◌, ◌++◌, length, take, drop, set, replicate, sym, refl, ap, ◌∙◌, add-one, arith}
-use Rattle.std.proofs.lemmas.List.{drop-drop}
-use Rattle.wire.proofs.Filling.{fill_more}
+use Rattle.std.proofs.Common.{◌≡◌, ℕ, zero, suc, ◌+◌, ◌-◌, ◌*◌, ◌<◌, ◌≤◌, cond, ltb, List, ◌++◌, length, get_or, take, drop, replicate, sym, refl, ap, ◌∙◌, ⊎_elim, arith}
+use Rattle.std.proofs.lemmas.Bool.{cases_lt, lt-ltb, le-ltb}
+use Rattle.std.proofs.lemmas.List.{drop-drop, length-append, length-replicate, get_or_append_left, get_or-append_right, get_or-replicate}
+use Rattle.std.proofs.lemmas.List.FromFn.{fill_by_all}
 use Rattle.wire.specs.Bytes.{field}
 use Rattle.wire.specs.declared.order.Order.{Order}
 use Rattle.wire.specs.declared.orders.Orders.{Orders}
@@ -13,30 +14,34 @@ unfolding orders_in
 length-orders_in zero bs = refl
 length-orders_in (suc k) bs = ap suc (length-orders_in k (drop 8 bs))
 
-orders_suc : (k : ℕ) (bs : List ℕ) → orders_in (suc k) bs ≡ orders_in k bs ++ order_in (field (8 * k) 8 bs) ∷ []
+-- order i of k
+order_at : (k : ℕ) (bs : List ℕ) (i : ℕ) (d : Order) → i < k → get_or (orders_in k bs) i d ≡ order_in (field (8 * i) 8 bs)
 unfolding orders_in
-orders_suc zero bs = refl
-orders_suc (suc k) bs =
-    let place : 8 + 8 * k ≡ 8 * suc k = omega arith in
-    let d : drop (8 * k) (drop 8 bs) ≡ drop (8 * suc k) bs = drop-drop (8 * k) 8 bs ∙ ap (λ (j : ℕ). drop j bs) place in
-    ap (λ (os : List Order). order_in (take 8 bs) ∷ os) (orders_suc k (drop 8 bs)) ∙
-    ap (λ (l : List ℕ). order_in (take 8 bs) ∷ (orders_in k (drop 8 bs) ++ order_in (take 8 l) ∷ [])) d
+order_at zero bs i d h = absurd (omega arith)
+order_at (suc k) bs zero d h = refl
+order_at (suc k) bs (suc i) d h =
+    let place : 8 + 8 * i ≡ 8 * suc i = omega arith in
+    order_at k (drop 8 bs) i d (omega arith) ∙
+    ap (λ (l : List ℕ). order_in (take 8 l)) (drop-drop (8 * i) 8 bs ∙ ap (λ (j : ℕ). drop j bs) place)
 
-pub orders_more : (k : ℕ) (bs : List ℕ) → orders_in (k + 1) bs ≡ orders_in k bs ++ order_in (field (8 * k) 8 bs) ∷ []
-orders_more k bs = rw add-one (orders_suc k bs)
+-- what stands at place i of a list with k orders
+abbrev pub placed : ℕ → List ℕ → ℕ → Order
+placed k bs i = cond (ltb i k) (order_in (field (8 * i) 8 bs)) blank
 
--- the first i orders, over spare places
-abbrev pub so_far : ℕ → List ℕ → List Order
-so_far i bs = orders_in i bs ++ replicate (8 - i) blank
-
-pub so_far_more : (i : ℕ) (bs : List ℕ) (list : List Order) (o : Order) → i < 8 → o ≡ order_in (take (8 * i + 8 - 8 * i) (drop (8 * i) bs)) → list ≡ so_far i bs → set list i o ≡ so_far (i + 1) bs
-so_far_more i bs list o h e inv =
-    let eight : 8 * i + 8 - 8 * i ≡ 8 = omega arith in
-    let e' : order_in (field (8 * i) 8 bs) ≡ o = sym (e ∙ ap (λ (n : ℕ). order_in (take n (drop (8 * i) bs))) eight) in
-    ap (λ (l : List Order). set l i o) inv ∙
-    fill_more (orders_in i bs) blank 8 i (length-orders_in i bs) h o ∙
-    ap (λ (l : List Order). l ++ replicate (8 - (i + 1)) blank)
-    (ap (λ (x : Order). orders_in i bs ++ x ∷ []) (sym e') ∙ sym (orders_more i bs))
-
-pub so_far-all : (k : ℕ) (bs : List ℕ) (os : Orders) → os.list ≡ so_far k bs → os.count ≡ k → os ≡ pack (orders_in k bs)
-so_far-all k bs os l n = let h = length-orders_in k bs in grind arith
+pub packed_orders : (k : ℕ) (bs : List ℕ) (os : Orders) → k ≤ 8 → length os.list ≡ 8 → ((i : ℕ) → i < 8 → get_or os.list i blank ≡ placed k bs i) → os.count ≡ k → os ≡ pack (orders_in k bs)
+packed_orders k bs os few eight each count =
+    let n = length-orders_in k bs in
+    let all : List Order = orders_in k bs ++ replicate (8 - k) blank in
+    let long : length all ≡ 8 = simp (length-append, length-replicate) (omega arith) in
+    let mine = fill_by_all (placed k bs) os.list 8 blank eight each in
+    let theirs = fill_by_all (placed k bs) all 8 blank long at in
+    let same = mine ∙ sym theirs in
+    grind arith
+  where
+    at : (i : ℕ) → i < 8 → get_or (orders_in k bs ++ replicate (8 - k) blank) i blank ≡ placed k bs i
+    at i h =
+        let n = length-orders_in k bs in
+        ⊎_elim
+        (λ l. get_or_append_left (orders_in k bs) _ blank i (omega arith) ∙ (order_at k bs i blank l ∙ rw lt-ltb))
+        (λ l. get_or-append_right (orders_in k bs) _ k i blank n l ∙ (get_or-replicate (8 - k) (i - k) blank blank (omega arith) ∙ rw le-ltb))
+        (cases_lt i k)

@@ -69,9 +69,9 @@ fn seals_in(set: u16, bytes: &[u8]) -> [[u8; 16]; 16]
 {
     let mut seals = [[0; 16]; 16];
     let mut at = 0;
-    for i in 0..16 {
+    for (i, seal) in seals.iter_mut().enumerate() {
         if has(set, i) {
-            seals[i] = array_at(bytes, at);
+            *seal = array_at(bytes, at);
             at += 16;
         }
     }

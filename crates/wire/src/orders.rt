@@ -3,6 +3,7 @@ ghost use Rattle.wire.specs.Format.{orders_of, pack};
 ghost use Rattle.wire.specs.Read.{all_well_formed, orders_in};
 
 use crate::order::Order;
+use std::array::from_fn;
 
 // Up to eight orders, the first `count` of `list`. Whoever builds one fills the spare places with
 // `Order::BLANK`, so that equal orders are equal values.
@@ -46,10 +47,13 @@ impl Orders {
         requires enough { 8 * count ≤ length bytes.now }
         ensures { result ≡ pack (orders_in count bytes.now) }
     {
-        let mut list = [Order::BLANK; 8];
-        for i in 0..count {
-            list[i] = Order::read(&bytes[8 * i..8 * i + 8]);
-        }
+        let list = from_fn(|i| {
+            if i < count {
+                Order::read(&bytes[8 * i..8 * i + 8])
+            } else {
+                Order::BLANK
+            }
+        });
         Orders {
             list,
             count: count as u8,
