@@ -36,7 +36,7 @@ free_found : (lines : List (Option Line)) (i : ℕ) → free_line lines ≡ Some
 free_found lines i = ((finds_vacant (shown truck_of) None lines).0 i).0
 
 some_not_none : {A : Type 0} (x : A) → Some x ≡ None → ⊥
-some_not_none x e = let z : ◌≡◌ {A = ℕ} 0 1 = cc in omega arith
+some_not_none x e = cc
 
 cond-some : {A : Type 0} (b : Bool) (x : Option A) (c : A) → cond b x None ≡ Some c → (b ≡ true) × (x ≡ Some c)
 cond-some true x c e = (refl, e)

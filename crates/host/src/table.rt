@@ -36,6 +36,6 @@ pub fn assignment_table(
 ) -> Result<AssignmentTable, AllocError>
     ensures { IfOk result (λ b. roster_of b ≡ record { limit = limit; lines = replicate lines None }) }
 {
-    let lines = vec![in alloc; None; lines as usize]?;
+    let lines = vec![in alloc; None; usize::from(lines)]?;
     Ok(Assignment::over(OwnLines { lines }, limit))
 }

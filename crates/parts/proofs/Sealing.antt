@@ -14,7 +14,7 @@ use Rattle.wire.specs.declared.statement.Statement.{Statement}
 use Rattle.wire.proofs.Numbers.{be_1}
 use Rattle.digest.specs.declared.mac.MacKey.{MacKey}
 use Rattle.parts.specs.Keyed.{KeyedLaw, key_bytes, keyed_seal, keyed_table}
-use Rattle.parts.specs.Stamp.{stamp, StampLaw}
+use Rattle.parts.specs.Stamp.{stamp}
 
 pub same_itself : (xs ys : List ℕ) → xs ≡ ys → bytes_eq xs ys ≡ true
 same_itself xs ys e = (bytes_eq-Decides xs ys).1 e
@@ -55,9 +55,6 @@ stamp_is signer s bs low long e =
     let o = be_1 signer low in
     let x : reads 6 0 bs ++ (signer ∷ reads 9 6 bs) ≡ (purpose_mark p ++ be 4 v) ++ (signer ∷ take 9 n) = cc in
     x ∙ (append_assoc (purpose_mark p) (be 4 v) (signer ∷ take 9 n) ∙ ap (λ (l : List ℕ). purpose_mark p ++ (be 4 v ++ (l ++ take 9 n))) (sym o))
-
-pub stamp_law : StampLaw
-stamp_law signer statement seal = bytes_eq-Decides seal (stamp signer statement)
 
 pub keyed_law : KeyedLaw
 unfolding keyed_seal

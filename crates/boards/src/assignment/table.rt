@@ -42,7 +42,7 @@ impl<'a> Table<'a> {
     fn takes_more(&self, place: u16) -> bool
         ensures { result ≡ takes_more (roster self.now) place }
     {
-        trucks_at(self.lines, place) < self.limit as usize
+        trucks_at(self.lines, place) < usize::from(self.limit)
     }
 
     // What sending a truck to a place changes.

@@ -8,12 +8,13 @@ use digest::MacKey;
 use wire::statement::Statement;
 
 // The seal of a statement under a key.
+#[tactic(auto, unfolding(crate::specs::Keyed::keyed_seal))]
 fn seal_by(key: &MacKey, statement: &Statement) -> [u8; 16]
     ensures { result ≡ keyed_seal key.now.key statement.now }
 {
     let tag = key.tag(&statement.bytes());
     let mut seal = [0; 16];
-    seal.copy_from_slice(&tag[0..16]);
+    seal.copy_from_slice(&tag[..16]);
     seal
 }
 
