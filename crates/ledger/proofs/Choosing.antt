@@ -1,11 +1,10 @@
 -- Choosing the block to hand over.
-use Rattle.std.proofs.Common.{◌≡◌, ℕ, ◌+◌, ◌-◌, ◌<◌, ◌≤◌, Bool, true, false, cond, ◌&&◌, eqb, ltb, List, [], ◌∷◌, reverse, Some, None, Option, sym, refl, ap, ◌∙◌, ⊎_elim, arith}
+use Rattle.std.proofs.Common.{◌≡◌, ℕ, ◌+◌, ◌<◌, Bool, true, false, cond, ◌&&◌, eqb, ltb, List, [], ◌∷◌, reverse, Some, None, refl, ap, ◌∙◌, ⊎_elim, arith}
 use Rattle.std.proofs.lemmas.List.{reverse-append}
 use Rattle.std.proofs.lemmas.List.Elements.{filter-append}
 use Rattle.std.proofs.lemmas.List.Sums.{fold-append}
 use Rattle.std.specs.List.{filter, fold}
-use Rattle.std.specs.Option.{SomeIff, option_eq}
-use Rattle.std.proofs.lemmas.Bool.{cases_Bool, cond-true, cond-false, and_parts, both_ways, ltb-true, ne_eqb}
+use Rattle.std.proofs.lemmas.Bool.{cases_Bool, cond-false, and_parts, both_ways, ltb-true}
 use Rattle.std.proofs.lemmas.Bool.Decides.{nat_tests}
 use Rattle.rules.specs.Blocks.{Slot, block_key, some_slot}
 use Rattle.rules.specs.Settle.{best, higher, ready, confirms, certified, reaches}
@@ -14,10 +13,6 @@ use Rattle.rules.specs.Shelves.{best_on, key_same, on_some_slot, some_slot_on}
 use Rattle.wire.specs.Format.{same_key}
 use Rattle.wire.specs.declared.key.Key.{Key}
 use Rattle.ledger.specs.Handed.{awaits}
-
-best_hit : (p : Slot → Bool) (x : Slot) (xs : List Slot) → p x ≡ true → best p (x ∷ xs) ≡ higher x (best p xs)
-unfolding best
-best_hit p x xs e = cond-true (p x) _ _ e
 
 best_miss : (p : Slot → Bool) (x : Slot) (xs : List Slot) → p x ≡ false → best p (x ∷ xs) ≡ best p xs
 unfolding best
@@ -49,16 +44,6 @@ best_fold p (x ∷ xs) =
 best_none : (p : Slot → Bool) → ((x : Slot) → p x ≡ false) → (xs : List Slot) → best p xs ≡ None
 best_none p h [] = best_nil p
 best_none p h (x ∷ xs) = best_miss p x xs (h x) ∙ best_none p h xs
-
--- the view before another, if there is one
-one_less : (x view before : ℕ) → 1 ≤ view → x ≡ view - 1 → eqb x before ≡ eqb view (before + 1)
-one_less x view before l e = grind (arith, nat_tests)
-
-pub view_before :
-    (o : Option ℕ) (view before : ℕ) → SomeIff o (1 ≤ view) (view - 1) →
-    option_eq eqb o (Some before) ≡ eqb view (before + 1)
-view_before None view before n = sym (ne_eqb _ _ (λ e. n (omega arith)))
-view_before (Some x) view before h = one_less x view before h.0 h.1
 
 confirming :
     (n : ℕ) (xs : List Slot) (head : Key) (b c : Block) →
@@ -98,7 +83,3 @@ best_above n xs head b e =
     let t = (best_on (ready n xs head) xs b e).1 in
     let p = and_parts (ltb head.view b.body.view) (some_slot (confirms n xs b) xs && reaches xs head b) t in
     ltb-true _ _ p.0
-
--- a test whose first part holds is its second
-pub and_rest : (a b r whole : Bool) → whole ≡ (a && b) → a ≡ true → r ≡ b → r ≡ whole
-and_rest a b r whole e t h = h ∙ sym (e ∙ ap (λ (x : Bool). x && b) t)

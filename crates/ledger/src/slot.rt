@@ -1,4 +1,4 @@
-ghost use Rattle.std.specs.Prelude.{◌≡◌, length, replicate, Some, None};
+ghost use Rattle.std.specs.Prelude.{◌≡◌, Some, None};
 ghost use Rattle.rules.specs.Blocks.{has_room, held, is_held, put as put_block, slot_key, swept, where_held};
 ghost use Rattle.rules.specs.Settle.{fresh};
 ghost use Rattle.shelf.specs.Slots.{Inside};
@@ -56,13 +56,6 @@ pub fn place(shelf: &mut [Option<Block>], body: &Body, name: &[u8; 32])
     ensures { shelf.new ≡ put_block (fresh body.now name.now) shelf.old }
 {
     let _ = slots::put(shelf, Some(fresh_block(body, name)));
-}
-
-// Empties every slot.
-pub fn clear_all(shelf: &mut [Option<Block>])
-    ensures { shelf.new ≡ replicate (length shelf.old) None }
-{
-    shelf.fill(None);
 }
 
 // Whether the slot is to be emptied: its block is of view up to this one.
