@@ -1,33 +1,36 @@
 -- The seals of a certificate, signer by signer.
-use Rattle.std.proofs.Common.{◌≡◌, ℕ, zero, suc, ◌+◌, ◌<◌, Bool, true, false, not, ◌&&◌, ◌||◌, [], get_or, refl, ap, ◌∙◌, subst, ⊎_elim, add-one, arith}
-use Rattle.std.proofs.lemmas.Bool.{and_from, and_left, and_right, cases_eq}
+use Rattle.std.proofs.Common.{◌≡◌, ℕ, zero, suc, ◌+◌, Bool, true, false, not, ◌&&◌, ◌||◌, List, [], ◌∷◌, ◌++◌, get_or, sym, refl, ap, ◌∙◌, add-zero, zero-add, arith}
+use Rattle.std.specs.List.{list_all, range_with_len}
+use Rattle.std.proofs.lemmas.List.Folds.{list_all-append}
 use Rattle.rules.specs.Hear.{votes_for, seals_accepted}
 use Rattle.rules.specs.State.{Table}
 use Rattle.wire.specs.Format.{signed}
 use Rattle.wire.specs.declared.certificate.Signers.{Signers}
 use Rattle.wire.specs.declared.key.Key.{Key}
+use Rattle.wire.specs.declared.statement.Statement.{Statement}
 
 -- console i has not signed, or its seal is accepted
-abbrev pub stands_for : Table → Key → Signers → ℕ → Bool
-stands_for t k s i = not (signed s.set i) || t i (votes_for k) (get_or s.seals i [])
+abbrev pub stands_for : Table → Statement → Signers → ℕ → Bool
+stands_for t statement s i = not (signed s.set i) || t i statement (get_or s.seals i [])
 
-pub seals_none : (t : Table) (k : Key) (s : Signers) → seals_accepted t k s 0 ≡ true
+-- the numbers from a on, and one more
+range_more : (a n : ℕ) → range_with_len a (suc n) ≡ range_with_len a n ++ ((a + n) ∷ [])
+range_more a zero = ap (λ (k : ℕ). k ∷ []) (sym (add-zero a))
+range_more a (suc n) =
+    let e : a + 1 + n ≡ a + suc n = omega arith in
+    ap (λ (l : List ℕ). a ∷ l) (range_more (a + 1) n ∙ ap (λ (k : ℕ). range_with_len (a + 1) n ++ (k ∷ [])) e)
+
+and_true : (b : Bool) → (b && true) ≡ b
+and_true true = refl
+and_true false = refl
+
+-- all seals up to a number, from the first on as from the last back
+pub seals_all : (t : Table) (k : Key) (s : Signers) (n : ℕ) → list_all (stands_for t (votes_for k) s) (range_with_len 0 n) ≡ seals_accepted t k s n
 unfolding seals_accepted
-seals_none t k s = refl
-
-seals_step : (t : Table) (k : Key) (s : Signers) (i : ℕ) → seals_accepted t k s (suc i) ≡ (seals_accepted t k s i && stands_for t k s i)
-unfolding seals_accepted
-seals_step t k s i = refl
-
-pub seals_more : (t : Table) (k : Key) (s : Signers) (i : ℕ) → seals_accepted t k s i ≡ true → stands_for t k s i ≡ true → seals_accepted t k s (i + 1) ≡ true
-seals_more t k s i e f = ap (seals_accepted t k s) (add-one i) ∙ seals_step t k s i ∙ and_from _ _ e f
-
--- one seal that is not accepted is enough
-pub seals_fail : (t : Table) (k : Key) (s : Signers) (i j : ℕ) → stands_for t k s i ≡ false → i < j → seals_accepted t k s j ≡ false
-seals_fail t k s i zero e = λ l. absurd (omega arith)
-seals_fail t k s i (suc j) e = λ l.
-    seals_step t k s j
-    ∙ ⊎_elim
-    (λ same. and_right _ _ (subst (λ (m : ℕ). stands_for t k s m ≡ false) same e))
-    (λ other. and_left _ _ (seals_fail t k s i j e (omega arith)))
-    (cases_eq i j)
+seals_all t k s zero = refl
+seals_all t k s (suc n) =
+    let test : ℕ → Bool = stands_for t (votes_for k) s in
+    ap (list_all test) (range_more 0 n)
+    ∙ list_all-append test (range_with_len 0 n) ((0 + n) ∷ [])
+    ∙ ap (λ (b : Bool). b && (test (0 + n) && true)) (seals_all t k s n)
+    ∙ ap (λ (b : Bool). seals_accepted t k s n && b) (and_true (test (0 + n)) ∙ ap test (zero-add n))

@@ -1,5 +1,6 @@
 -- Calls held to an outcome of the rules.
-use Rattle.std.proofs.Common.{◌≡◌, ℕ, ◌/◌, ◌<◌, Bool, true, false, cond, eqb, ltb, List, [], ◌++◌, length, drop, Option, sym, refl, ap, ◌∙◌, subst}
+use Rattle.std.proofs.Common.{◌≡◌, ℕ, ◌/◌, ◌<◌, Bool, true, false, cond, eqb, ltb, List, [], ◌++◌, length, drop, Some, None, Option, sym, refl, ap, ◌∙◌, subst, arith}
+use Rattle.std.specs.Option.{option_or}
 use Rattle.std.proofs.lemmas.Bool.{cond-true, lt-ltb}
 use Rattle.ledger.proofs.Lines.{fed_none}
 use Rattle.ledger.proofs.Outcomes.{Settles}
@@ -71,12 +72,12 @@ entered_is n k voter seal g after l e = e ∙ cond-true (ltb voter 16) _ _ (lt-l
 
 -- the console's own vote
 pub does_vote :
-    {W : Type 0} (rule : W → Order → W) (keys : Keys) (b : Block) (s : State) (w end : W) (kept : Marks) (k : Key) (seal : List ℕ)
+    {W : Type 0} (rule : W → Order → W) (keys : Keys) (b : Block) (s : State) (w end : W) (kept : Marks)
     (v : Vote) (handed : ℕ) (entered after : Ledger) →
-    s.seat.own < 16 → k ≡ block_key b → seal ≡ v.seal → v.block ≡ k → v.voter ≡ s.seat.own →
-    keys.table keys.own (votes_for k) v.seal ≡ true → length v.seal ≡ 16 →
+    s.seat.own < 16 → v.block ≡ block_key b → v.voter ≡ s.seat.own →
+    keys.table keys.own (votes_for (block_key b)) v.seal ≡ true → length v.seal ≡ 16 →
     kept ≡ marks_voted s.marks s.view b.body.parent.view →
-    entered ≡ cond (ltb s.seat.own 16) (enter s.seat.n k s.seat.own seal s.ledger) s.ledger →
+    entered ≡ cond (ltb v.voter 16) (enter s.seat.n v.block v.voter v.seal s.ledger) s.ledger →
     handed ≡ length (settle s.seat.n entered).handed →
     after ≡ (settle s.seat.n entered).ledger →
     end ≡ fed rule w (all_orders (settle s.seat.n entered).handed) →
@@ -98,14 +99,15 @@ pub does_vote :
       output = [];
     })
 unfolding vote_for
-does_vote rule keys b s w end kept k seal v handed entered after l ek es eb ev ea sixteen em en eh el ew =
+does_vote rule keys b s w end kept v handed entered after l eb ev ea sixteen em en eh el ew =
+    let own : v.voter < 16 = omega arith in
     let g =
-    entered_is s.seat.n k s.seat.own seal s.ledger entered l en
-    ∙ (λ i. enter s.seat.n (ek i) s.seat.own (es i) s.ledger) in
+    entered_is s.seat.n v.block v.voter v.seal s.ledger entered own en
+    ∙ (λ i. enter s.seat.n (eb i) (ev i) v.seal s.ledger) in
     let t = settled_at rule w end handed s.seat.n after entered (enter s.seat.n (block_key b) s.seat.own v.seal s.ledger) g eh el ew in
     record {
-      sealed = (sym (ap (λ (x : Key). keys.table keys.own (votes_for x) v.seal) ek) ∙ ea, sixteen);
-      answer = ap vote (λ i. record { block = (eb ∙ ek) i; voter = ev i; seal = v.seal });
+      sealed = (ea, sixteen);
+      answer = ap vote (λ i. record { block = eb i; voter = ev i; seal = v.seal });
       state =
           λ i.
           record {
@@ -151,11 +153,10 @@ placed_new body k g xs ek ex =
     inside true = refl
     inside false = refl
 
--- a seal that was handed on
-pub accepted_as :
-    (keys : Keys) (k : Key) {seal given : List ℕ} →
-    seal ≡ given → keys.table keys.own (proposes k) given ≡ true → keys.table keys.own (proposes k) seal ≡ true
-accepted_as keys k e a = ap (λ (x : List ℕ). keys.table keys.own (proposes k) x) e ∙ a
+-- a candidate is kept
+pub or_as : (c : Option (List ℕ)) (name : List ℕ) → option_or c (Some name) ≡ or_candidate c name
+or_as None name = refl
+or_as (Some c) name = refl
 
 pub does_propose :
     {W : Type 0} (rule : W → Order → W) (keys : Keys) (body : Body) (k : Key) (seal : List ℕ) (s : State) (w end : W) (out wrote : List ℕ)

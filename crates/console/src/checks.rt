@@ -1,36 +1,28 @@
 ghost use Rattle.std.specs.Prelude.{◌≡◌, ◌*◌, ◌<◌, not, ◌&&◌, ◌||◌, [], if◌then◌else◌, None, ◌==◌, nat_eq, slice_index_or};
 ghost use Rattle.rules.specs.Blocks.{has_room, is_held};
-ghost use Rattle.rules.specs.Hear.{certificate_stands, proposes, seals_accepted, unread, votes_for};
+ghost use Rattle.rules.specs.Hear.{certificate_stands, proposes, seals_accepted, votes_for};
 ghost use Rattle.rules.specs.Pit.{leader, shelf_size};
 ghost use Rattle.rules.specs.State.{or_candidate};
 ghost use Rattle.rules.specs.Tick.{may_vote};
 ghost use Rattle.wire.specs.Format.{signed};
 
+use crate::permit::Permit;
+use crate::statements::{proposes, votes_for};
 use ledger::quorum::is_quorum;
 use ledger::slot::{has_room, is_held};
 use parts::seals::Seals;
 use parts::store::Marks;
 use rules::block::Block;
-use rules::refusal::Refusal;
 use wire::certificate::{Certificate, Signers};
 use wire::key::Key;
 use wire::message::Vote;
-use wire::statement::{Purpose, Statement};
-use wire::unreadable::Unreadable;
+use wire::statement::Statement;
 
 // Whether a shelf of so many slots is the one that was noted at opening.
 pub(crate) fn has_slots(len: usize, noted: usize) -> bool
     ensures { result ≡ (shelf_size len && len == noted) }
 {
     len >= 8 && len <= 256 && len == noted
-}
-
-// The console that proposes in the view.
-pub(crate) fn leader_of(n: u8, view: u32) -> u8
-    requires { 0 < n }
-    ensures { result ≡ leader n view }
-{
-    (view % u32::from(n)) as u8
 }
 
 // Whether the tick is the view's first.
@@ -54,16 +46,6 @@ pub(crate) fn candidate_in(candidate: Option<[u8; 32]>, view: u32, before: u32) 
     if view == before { candidate } else { None }
 }
 
-// A block becomes the candidate if there is none.
-pub(crate) fn candidate_or(candidate: Option<[u8; 32]>, name: [u8; 32]) -> Option<[u8; 32]>
-    ensures { result ≡ or_candidate candidate name }
-{
-    match candidate {
-        Some(_) => candidate,
-        None => Some(name),
-    }
-}
-
 // The candidate after a proposal was taken up: its block, if that is of the console's view and there was none.
 pub(crate) fn candidate_heard(
     candidate: Option<[u8; 32]>,
@@ -74,7 +56,7 @@ pub(crate) fn candidate_heard(
     ensures { result ≡ (if nat_eq view own_view then or_candidate candidate name else candidate) }
 {
     if view == own_view {
-        candidate_or(candidate, name)
+        candidate.or(Some(name))
     } else {
         candidate
     }
@@ -87,38 +69,23 @@ pub(crate) fn has_place(shelf: &[Option<Block>], key: &Key) -> bool
     is_held(shelf, key) || has_room(shelf)
 }
 
-// The refusal of a message that cannot be read.
-pub(crate) fn refusal_of(unreadable: Unreadable) -> Refusal
-    ensures { result ≡ unread unreadable }
-{
-    match unreadable {
-        Unreadable::Mark => Refusal::Mark,
-        Unreadable::Length => Refusal::Length,
-        Unreadable::Form => Refusal::Form,
-    }
-}
-
 // Whether the seal of a proposal of the block is its leader's.
-pub(crate) fn is_leaders_seal<S: Seals>(seals: &S, n: u8, key: &Key, seal: &[u8; 16]) -> bool
-    requires { 0 < n }
-    ensures { result ≡ (S.Seals.keys seals.now).table (leader n key.now.view) (proposes key.now) seal.now }
+pub(crate) fn is_leaders_seal<S: Seals>(
+    seals: &S,
+    permit: &Permit,
+    key: &Key,
+    seal: &[u8; 16],
+) -> bool
+    ensures { result ≡ (S.Seals.keys seals.now).table (leader permit.now.n key.now.view) (proposes key.now) seal.now }
 {
-    let statement = Statement {
-        purpose: Purpose::Propose,
-        block: *key,
-    };
-    seals.check(leader_of(n, key.view), &statement, seal)
+    seals.check(permit.leader(key.view), &proposes(key), seal)
 }
 
 // Whether the vote's seal is the voter's.
 pub(crate) fn is_voters_seal<S: Seals>(seals: &S, vote: &Vote) -> bool
     ensures { result ≡ (S.Seals.keys seals.now).table vote.now.voter (votes_for vote.now.block) vote.now.seal }
 {
-    let statement = Statement {
-        purpose: Purpose::Vote,
-        block: vote.block,
-    };
-    seals.check(vote.voter, &statement, &vote.seal)
+    seals.check(vote.voter, &votes_for(&vote.block), &vote.seal)
 }
 
 // Whether console i has not signed, or its seal of the statement is accepted.
@@ -133,25 +100,15 @@ fn seal_stands<S: Seals>(seals: &S, statement: &Statement, signers: &Signers, i:
 fn seals_stand<S: Seals>(seals: &S, block: &Key, signers: &Signers) -> bool
     ensures { result ≡ seals_accepted (S.Seals.keys seals.now).table block.now signers.now 16 }
 {
-    let statement = Statement {
-        purpose: Purpose::Vote,
-        block: *block,
-    };
-    for i in 0..16 {
-        if !seal_stands(seals, &statement, signers, i) {
-            return false;
-        }
-    }
-    true
+    let statement = votes_for(block);
+    (0..16).all(|i| seal_stands(seals, &statement, signers, i))
 }
 
 // Whether the certificate is the origin's, or has a quorum of signers, each with its seal.
 pub(crate) fn is_certificate<S: Seals>(seals: &S, n: u8, certificate: &Certificate) -> bool
     ensures { result ≡ certificate_stands (S.Seals.keys seals.now).table n certificate.now }
 {
-    if certificate.block.view == 0 {
-        return true;
-    }
-    is_quorum(n, certificate.signers.set)
-        && seals_stand(seals, &certificate.block, &certificate.signers)
+    let signers = &certificate.signers;
+    certificate.block.view == 0
+        || (is_quorum(n, signers.set) && seals_stand(seals, &certificate.block, signers))
 }

@@ -6,5 +6,6 @@ mod checks;
 pub mod console;
 pub mod permit;
 pub mod request;
+mod statements;
 pub mod turn;
 pub mod vote;

@@ -3,11 +3,11 @@ ghost use Rattle.rules.specs.Hear.{votes_for};
 ghost use Rattle.wire.specs.Format.{vote_bytes};
 ghost use Rattle.wire.specs.Written.{Written};
 
+use crate::statements::votes_for;
 use parts::seals::Seals;
 use parts::store::{Marks, Store};
 use wire::key::Key;
 use wire::message::Vote;
-use wire::statement::{Purpose, Statement};
 
 // A vote that has been recorded and not yet been made. It can only be spent.
 pub struct Slip {
@@ -18,14 +18,6 @@ pub struct Slip {
 #[derive(Drop)]
 pub struct SealedVote {
     vote: Vote,
-}
-
-// A seal is sixteen bytes.
-pub(crate) fn sixteen_bytes(seal: &[u8; 16]) -> [u8; 16]
-    ensures same { result ≡ seal.now }
-    ensures sixteen { length result ≡ 16 }
-{
-    *seal
 }
 
 // Records a vote: the store has the numbers that go with it before there is anything to send.
@@ -46,11 +38,7 @@ impl Slip {
         ensures sixteen { length result.vote.seal ≡ 16 }
     {
         let Slip { block } = self;
-        let statement = Statement {
-            purpose: Purpose::Vote,
-            block,
-        };
-        let seal = sixteen_bytes(&seals.seal(&statement));
+        let seal = seals.seal(&votes_for(&block));
         SealedVote {
             vote: Vote { block, voter, seal },
         }
@@ -58,13 +46,6 @@ impl Slip {
 }
 
 impl SealedVote {
-    // The seal of the vote.
-    pub(crate) fn seal(&self) -> [u8; 16]
-        ensures { result ≡ self.now.vote.seal }
-    {
-        self.vote.seal
-    }
-
     // What the message says.
     pub fn vote(&self) -> Vote
         ensures { result ≡ self.now.vote }

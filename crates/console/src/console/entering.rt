@@ -14,7 +14,6 @@ use crate::console::Console;
 use crate::request::{FullRequest, Request};
 use agreement::promise;
 use ledger::progress::Progress;
-use ledger::slot::clear_all;
 use parts::board::Board;
 use parts::seals::Seals;
 use parts::store::Store;
@@ -26,7 +25,7 @@ impl<S: Seals, T: Store, B: Board> Console<S, T, B> {
         ensures did { Did B.Board.rule (S.Seals.keys self.old.seals) (seen T.Store.kept self.old shelf.old) (opening (length shelf.old)) (B.Board.world self.old.board) [] (stands T.Store.kept B.Board.world self.new shelf.new opens 0 []) }
         ensures same { S.Seals.keys self.new.seals ≡ S.Seals.keys self.old.seals }
     {
-        clear_all(shelf);
+        shelf.fill(None);
         self.marks = self.store.load();
         self.slots = shelf.len();
         self.tick = 0;

@@ -1,4 +1,5 @@
 ghost use Rattle.std.specs.Prelude.{◌≡◌, ℕ, ◌<◌, List, []};
+ghost use Rattle.std.specs.Result.{result_err};
 ghost use Rattle.rules.specs.Call.{hearing};
 ghost use Rattle.rules.specs.Hear.{count_vote, hear_proposal, hear_vote, proposal_ground, take_up};
 ghost use Rattle.wire.specs.Format.{body_key};
@@ -11,7 +12,6 @@ ghost use Rattle.console.specs.Stands.{stands};
 use crate::answers::Heard;
 use crate::checks::{
     candidate_heard, has_place, has_slots, is_certificate, is_leaders_seal, is_voters_seal,
-    refusal_of,
 };
 use crate::console::Console;
 use ledger::slot::{held, is_held, place};
@@ -34,46 +34,50 @@ fn message_in(reading: &Reading) -> Message
     }
 }
 
+// A proposal with the key of its body, found once: it takes a digest.
+#[derive(Clone, Copy)]
+struct Named<'a> {
+    proposal: &'a Proposal,
+    key: Key,
+    ghost named: { key ≡ body_key proposal.now.body },
+}
+
 impl<S: Seals, T: Store, B: Board> Console<S, T, B> {
-    // The first ground on which a readable proposal is refused.
-    fn proposal_ground(
-        &self,
-        shelf: &[Option<Block>],
-        proposal: &Proposal,
-        key: &Key,
-    ) -> Option<Refusal>
-        requires { key.now ≡ body_key proposal.now.body }
-        ensures { result ≡ proposal_ground (S.Seals.keys self.now.seals).table (seen T.Store.kept self.now shelf.now) proposal.now }
+    // Refuses a readable proposal on the first ground that there is.
+    fn check_proposal(&self, shelf: &[Option<Block>], named: &Named) -> Result<(), Refusal>
+        ensures { result_err result ≡ proposal_ground (S.Seals.keys self.now.seals).table (seen T.Store.kept self.now shelf.now) named.now.proposal.now }
     {
+        let proposal = named.proposal;
         let view = proposal.body.view;
         if self.view < view {
-            return Some(Refusal::ViewAhead);
+            return Err(Refusal::ViewAhead);
         }
         if view <= self.progress.head().view {
-            return Some(Refusal::NotAboveHead);
+            return Err(Refusal::NotAboveHead);
         }
-        if !is_leaders_seal(&self.seals, self.permit.n, key, &proposal.seal) {
-            return Some(Refusal::LeaderSeal);
+        if !is_leaders_seal(&self.seals, &self.permit, &named.key, &proposal.seal) {
+            return Err(Refusal::LeaderSeal);
         }
         if !is_certificate(&self.seals, self.permit.n, &proposal.certificate) {
-            return Some(Refusal::BadCertificate);
+            return Err(Refusal::BadCertificate);
         }
-        if !has_place(shelf, key) {
-            return Some(Refusal::ShelfFull);
+        if !has_place(shelf, &named.key) {
+            return Err(Refusal::ShelfFull);
         }
-        None
+        Ok(())
     }
 
     // A new proposal gets a slot; its certificate may become the top one, and it the candidate.
-    fn take_up(&mut self, shelf: &mut [Option<Block>], proposal: &Proposal, key: &Key) -> Heard
-        requires { key.now ≡ body_key proposal.now.body }
-        ensures did { Does B.Board.rule (S.Seals.keys self.old.seals) (take_up proposal.now (seen T.Store.kept self.old shelf.old)) [] (B.Board.world self.old.board) [] (stands T.Store.kept B.Board.world self.new shelf.new (heard_answer result) (heard_handed result) []) }
+    fn take_up(&mut self, shelf: &mut [Option<Block>], named: &Named) -> Heard
+        ensures did { Does B.Board.rule (S.Seals.keys self.old.seals) (take_up named.now.proposal.now (seen T.Store.kept self.old shelf.old)) [] (B.Board.world self.old.board) [] (stands T.Store.kept B.Board.world self.new shelf.new (heard_answer result) (heard_handed result) []) }
         ensures same { S.Seals.keys self.new.seals ≡ S.Seals.keys self.old.seals }
     {
-        place(shelf, &proposal.body, &key.name);
+        let proposal = named.proposal;
+        let name = named.key.name;
+        place(shelf, &proposal.body, &name);
         self.progress.raise_top(&proposal.certificate);
         let handed = self.progress.settle(self.permit.n, shelf, &mut self.board);
-        self.candidate = candidate_heard(self.candidate, key.name, proposal.body.view, self.view);
+        self.candidate = candidate_heard(self.candidate, name, proposal.body.view, self.view);
         Heard::New(handed)
     }
 
@@ -86,14 +90,15 @@ impl<S: Seals, T: Store, B: Board> Console<S, T, B> {
         ensures did { Does B.Board.rule (S.Seals.keys self.old.seals) (hear_proposal (S.Seals.keys self.old.seals).table (seen T.Store.kept self.old shelf.old) proposal.now) [] (B.Board.world self.old.board) [] (stands T.Store.kept B.Board.world self.new shelf.new (answered heard_answer result) (handed_over heard_handed result) []) }
         ensures same { S.Seals.keys self.new.seals ≡ S.Seals.keys self.old.seals }
     {
-        let key = proposal.body.key();
-        if let Some(refusal) = self.proposal_ground(shelf, proposal, &key) {
-            return Err(refusal);
-        }
-        if is_held(shelf, &key) {
+        let named = Named {
+            proposal,
+            key: proposal.body.key(),
+        };
+        self.check_proposal(shelf, &named)?;
+        if is_held(shelf, &named.key) {
             return Ok(Heard::Known);
         }
-        Ok(self.take_up(shelf, proposal, &key))
+        Ok(self.take_up(shelf, &named))
     }
 
     // A new vote joins its block's tally.
@@ -102,8 +107,7 @@ impl<S: Seals, T: Store, B: Board> Console<S, T, B> {
         ensures did { Does B.Board.rule (S.Seals.keys self.old.seals) (count_vote vote.now (seen T.Store.kept self.old shelf.old)) [] (B.Board.world self.old.board) [] (stands T.Store.kept B.Board.world self.new shelf.new (heard_answer result) (heard_handed result) []) }
         ensures same { S.Seals.keys self.new.seals ≡ S.Seals.keys self.old.seals }
     {
-        self.progress
-            .enter(self.permit.n, shelf, &vote.block, vote.voter, &vote.seal);
+        self.progress.enter(self.permit.n, shelf, vote);
         let handed = self.progress.settle(self.permit.n, shelf, &mut self.board);
         Heard::New(handed)
     }
@@ -134,10 +138,7 @@ impl<S: Seals, T: Store, B: Board> Console<S, T, B> {
         if !has_slots(shelf.len(), self.slots) {
             return Err(Refusal::ShelfSize);
         }
-        let reading = match read(self.permit.n, bytes) {
-            Ok(reading) => reading,
-            Err(unreadable) => return Err(refusal_of(unreadable)),
-        };
+        let reading = read(self.permit.n, bytes)?;
         match message_in(&reading) {
             Message::Proposal(proposal) => self.hear_proposal(shelf, &proposal),
             Message::Vote(vote) => self.hear_vote(shelf, &vote),

@@ -8,7 +8,6 @@ use crate::answers::Look;
 use crate::console::Console;
 use crate::permit::Permit;
 use ledger::progress::Progress;
-use ledger::slot::clear_all;
 use parts::board::Board;
 use parts::seals::Seals;
 use parts::store::Store;
@@ -29,7 +28,7 @@ pub fn open<S: Seals, T: Store, B: Board>(
     ensures store { result.store ≡ store }
     ensures board { result.board ≡ board }
 {
-    clear_all(shelf);
+    shelf.fill(None);
     let marks = store.load();
     Console {
         seals,
@@ -78,6 +77,7 @@ impl<S: Seals, T: Store, B: Board> Console<S, T, B> {
         ensures store { result.1 ≡ self.store }
         ensures board { result.2 ≡ self.board }
     {
+        // Stays: each field is named, (a): the parts need not be `Drop`, so that nothing of a console may be let go by `..`.
         let Console {
             seals,
             store,

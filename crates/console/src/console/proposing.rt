@@ -11,10 +11,10 @@ ghost use Rattle.console.specs.Seen.{owed, seen};
 ghost use Rattle.console.specs.Stands.{stands};
 
 use crate::answers::Proposed;
-use crate::checks::{candidate_or, has_place, has_slots, is_first_tick};
+use crate::checks::{has_place, has_slots, is_first_tick};
 use crate::console::Console;
+use crate::statements::proposes;
 use crate::turn::Turn;
-use crate::vote::sixteen_bytes;
 use ledger::slot::{is_held, place};
 use parts::board::Board;
 use parts::seals::Seals;
@@ -26,7 +26,6 @@ use wire::key::Key;
 use wire::message::Proposal;
 use wire::order::Order;
 use wire::orders::{Orders, well_formed};
-use wire::statement::{Purpose, Statement};
 
 // The orders of a body, unless there are more than eight or one is ill-formed.
 fn packed(orders: &[Order]) -> Option<Orders>
@@ -86,19 +85,15 @@ impl<S: Seals, T: Store, B: Board> Console<S, T, B> {
         ensures did { (seal : List ℕ) × Does B.Board.rule (S.Seals.keys self.old.seals) (propose_body body.now seal (seen T.Store.kept self.old shelf.old)) seal (B.Board.world self.old.board) out.old (stands T.Store.kept B.Board.world self.new shelf.new (proposed_answer result) (proposed_handed result) out.new) }
         ensures same { S.Seals.keys self.new.seals ≡ S.Seals.keys self.old.seals }
     {
-        let statement = Statement {
-            purpose: Purpose::Propose,
-            block: *key,
-        };
         let message = Proposal {
             body: *body,
             certificate: self.progress.top(),
-            seal: sixteen_bytes(&self.seals.seal(&statement)),
+            seal: self.seals.seal(&proposes(key)),
         };
         let length = write_proposal(&message, out);
         place_if_new(shelf, body, key);
         let handed = self.progress.settle(self.permit.n, shelf, &mut self.board);
-        self.candidate = candidate_or(self.candidate, key.name);
+        self.candidate = self.candidate.or(Some(key.name));
         Proposed { length, handed }
     }
 

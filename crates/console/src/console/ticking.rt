@@ -8,16 +8,17 @@ ghost use Rattle.console.specs.Stands.{stands};
 ghost use Rattle.console.specs.Seen.{seen};
 
 use crate::answers::Ticked;
-use crate::checks::{candidate_in, has_slots, leader_of, may_vote_on};
+use crate::checks::{candidate_in, has_slots, may_vote_on};
 use crate::console::Console;
 use crate::turn::Turn;
 use crate::vote::record_vote;
-use ledger::slot::{held, key_of};
+use ledger::slot::held;
 use parts::board::Board;
 use parts::seals::Seals;
 use parts::store::{Marks, Store};
 use rules::block::Block;
 use rules::refusal::Refusal;
+use shelf::record::Keyed;
 use wire::key::Key;
 
 impl<S: Seals, T: Store, B: Board> Console<S, T, B> {
@@ -25,7 +26,7 @@ impl<S: Seals, T: Store, B: Board> Console<S, T, B> {
     fn leads(&self) -> bool
         ensures { (xs : List Slot) → result ≡ may_take_turn (seen T.Store.kept self.now xs) }
     {
-        leader_of(self.permit.n, self.view) == self.permit.own && self.marks.proposed < self.view
+        self.permit.leader(self.view) == self.permit.own && self.marks.proposed < self.view
     }
 
     // Takes the turn in the view that the console leads, once: the store has it before it is answered.
@@ -37,9 +38,8 @@ impl<S: Seals, T: Store, B: Board> Console<S, T, B> {
             return Ticked::Nothing;
         }
         let marks = Marks {
-            lock: self.marks.lock,
-            voted: self.marks.voted,
             proposed: self.view,
+            ..self.marks
         };
         self.store.save(marks);
         self.marks = marks;
@@ -66,18 +66,16 @@ impl<S: Seals, T: Store, B: Board> Console<S, T, B> {
         ensures did { (seal : List ℕ) × Does B.Board.rule (S.Seals.keys self.old.seals) (vote_for block.now seal (seen T.Store.kept self.old shelf.old)) seal (B.Board.world self.old.board) [] (stands T.Store.kept B.Board.world self.new shelf.new (ticked_answer result) (ticked_handed result) []) }
         ensures same { S.Seals.keys self.new.seals ≡ S.Seals.keys self.old.seals }
     {
-        let key = key_of(block);
+        let key = block.key();
         let marks = Marks {
             lock: block.body.parent.view,
             voted: self.view,
-            proposed: self.marks.proposed,
+            ..self.marks
         };
         let slip = record_vote(&mut self.store, marks, &key);
         self.marks = marks;
         let vote = slip.cast(&self.seals, self.permit.own);
-        let seal = vote.seal();
-        self.progress
-            .enter(self.permit.n, shelf, &key, self.permit.own, &seal);
+        self.progress.enter(self.permit.n, shelf, &vote.vote());
         let handed = self.progress.settle(self.permit.n, shelf, &mut self.board);
         Ticked::Vote(vote, handed)
     }

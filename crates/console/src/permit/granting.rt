@@ -1,3 +1,5 @@
+ghost use Rattle.std.specs.Prelude.{◌≡◌};
+ghost use Rattle.rules.specs.Pit.{leader};
 ghost use Rattle.console.specs.Permits.{Granted};
 
 use crate::permit::Permit;
@@ -14,4 +16,13 @@ pub fn permit(n: u8, own: u8) -> Result<Permit, Refusal>
         return Err(Refusal::OwnNumber);
     }
     Ok(Permit { n, own })
+}
+
+impl Permit {
+    // The console that proposes in the view.
+    pub(crate) fn leader(&self, view: u32) -> u8
+        ensures { result ≡ leader self.now.n view }
+    {
+        (view % u32::from(self.n)) as u8
+    }
 }

@@ -1,19 +1,16 @@
-use Rattle.std.proofs.Common.{◌≡◌, sym, ap, ◌∙◌, arith}
-use Rattle.rules.specs.Hear.{seals_accepted}
-use Rattle.console.proofs.Certificates.{seals_none, seals_more, seals_fail}
+use Rattle.std.proofs.Common.{ap, ◌∙◌, refl, rules, tests}
+use Rattle.std.proofs.lemmas.Iterator.{YieldsList-from_range}
+use Rattle.std.proofs.lemmas.Iterator.Search.{all_from_yields_List}
+use Rattle.std.specs.List.{list_all, range_with_len}
+use Rattle.wire.specs.declared.statement.Statement.{Statement}
+use Rattle.console.proofs.Certificates.{seals_all, stands_for}
 use Rattle.console.proofs.checks.seals_stand.Goals as goal
-
-pub loop-i-init : goal.loop-i-init
-loop-i-init g c = seals_none _ _ _
-
-pub loop-i-preserved : goal.loop-i-preserved
-loop-i-preserved g c = seals_more _ _ _ _ c.loop-i.invariant (sym c.if-not-seal_stands.ensures)
-
-pub returns-then-not-seal_stands : goal.returns-then-not-seal_stands
-returns-then-not-seal_stands g c = sym (seals_fail _ _ _ _ _ (sym c.if-not-seal_stands.ensures) c.loop-i-test.true)
 
 pub returns : goal.returns
 returns g c =
-    let e : c.loop-i.i ≡ 16 = omega arith in
-    sym c.loop-i.invariant
-    ∙ ap (seals_accepted (g.S.Seals.keys c.args.seals.now).table c.args.block.now c.args.signers.now) e
+    let table = (g.S.Seals.keys c.args.seals.now).table in
+    let signers = c.args.signers.now in
+    all_from_yields_List (stands_for table c.votes_for-statement.result signers) _ _ _ c.all.ensures.ran
+    (YieldsList-from_range 0 16 16 refl refl) (λ x b q k. search (rules, tests))
+    ∙ ap (λ (x : Statement). list_all (stands_for table x signers) (range_with_len 0 16)) c.votes_for-statement.ensures
+    ∙ seals_all _ _ _ 16

@@ -1,4 +1,5 @@
 use Rattle.std.proofs.Common.{[], sym, refl, ap, arith}
+use Rattle.std.proofs.lemmas.Result.{err_from_is_err_and}
 use Rattle.rules.specs.Step.{refused}
 use Rattle.console.proofs.Doing.{does_as, does_only}
 use Rattle.console.proofs.Heard.{read_as, voter_below}
@@ -16,7 +17,7 @@ pub hear_vote-requires : goal.hear_vote-requires
 hear_vote-requires g c =
     let v =
     voter_below c.args.self.now.permit.n c.args.bytes.now c.in-Vote.vote
-    (read_as _ _ _ _ c.in-Ok.ensures.message c.in-Vote.ensures) in
+    (read_as _ _ _ _ c.in_ok-reading.ensures.message c.in-Vote.ensures) in
     omega (arith, c.args.self.now.permit.most)
 
 pub returns-in-Proposal : goal.returns-in-Proposal
@@ -25,7 +26,7 @@ returns-in-Proposal g c =
       did = (
         [],
         does_as _ _ _ _ _ _ _ _
-            (hear_as_proposal _ _ _ _ (sym c.if-not-has_slots.ensures) (read_as _ _ _ _ c.in-Ok.ensures.message c.in-Proposal.ensures))
+            (hear_as_proposal _ _ _ _ (sym c.if-not-has_slots.ensures) (read_as _ _ _ _ c.in_ok-reading.ensures.message c.in-Proposal.ensures))
             c.hear_proposal.ensures.did,
       );
       same = c.hear_proposal.ensures.same;
@@ -37,19 +38,21 @@ returns-in-Vote g c =
       did = (
         [],
         does_as _ _ _ _ _ _ _ _
-            (hear_as_vote _ _ _ _ (sym c.if-not-has_slots.ensures) (read_as _ _ _ _ c.in-Ok.ensures.message c.in-Vote.ensures))
+            (hear_as_vote _ _ _ _ (sym c.if-not-has_slots.ensures) (read_as _ _ _ _ c.in_ok-reading.ensures.message c.in-Vote.ensures))
             c.hear_vote.ensures.did,
       );
       same = c.hear_vote.ensures.same;
     }
 
-pub returns-in-Err : goal.returns-in-Err
-returns-in-Err g c =
-    record {
+pub returns-in_err-reading : goal.returns-in_err-reading
+returns-in_err-reading g c =
+    let p = err_from_is_err_and c.from_residual.result c.from_residual.ensures.1 in
+    rw p.1
+    (record {
       did = (
         [],
-        does_as _ _ _ _ _ _ _ _ (hear_unread _ _ _ _ (sym c.if-not-has_slots.ensures) (sym c.in-Err.ensures.message))
-            (does_only _ _ _ _ _ _ _ _ _ (ap refused c.refusal_of.ensures) refl),
+        does_as _ _ _ _ _ _ _ _ (hear_unread _ _ _ _ (sym c.if-not-has_slots.ensures) (sym c.in_err-reading.ensures.message))
+            (does_only _ _ _ _ _ _ _ _ _ (ap refused p.2) refl),
       );
       same = refl;
-    }
+    })
