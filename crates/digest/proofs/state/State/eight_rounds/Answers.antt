@@ -1,16 +1,23 @@
-use Rattle.std.proofs.Common.{◌+◌, arith}
+use Rattle.std.proofs.Common.{◌≡◌, ℕ, ◌+◌, [], ◌∷◌, ◌++◌, length, refl, arith}
+use Rattle.std.proofs.lemmas.List.{length_push}
+use Rattle.std.proofs.lemmas.Slice.Zip.{zip_turn, zip_end}
 use Rattle.digest.proofs.Steps.{round_among}
 use Rattle.digest.proofs.state.State.eight_rounds.Goals as goal
 
+pub loop-k-init : goal.loop-k-init
+loop-k-init c = λ t s words e a b. let z : t + 0 ≡ t = omega arith in rw z e
+
+pub loop-k-preserved : goal.loop-k-preserved
+loop-k-preserved c = λ t s words e a b.
+    let n : ℕ = length c.loop-k.yielded in
+    let turn = zip_turn c.args.ks.now c.args.ws.now c.loop-k.yielded c.into_iter-k-iterator.result c.loop-k.k-iterator c.next.new.self c.next.result (cc) (cc) c.loop-k.yielded_by (c.in-Some.k, c.in-Some.w) c.in-Some.is c.next.ensures.steps in
+    let l = length_push c.loop-k.yielded (c.in-Some.k, c.in-Some.w) in
+    round_among {m = t + n} {n = t + length (c.loop-k.yielded ++ (c.in-Some.k, c.in-Some.w) ∷ [])} t n s words c.args.ks.now c.args.ws.now a b
+    (c.loop-k.invariant t s words e a b) (let k = turn.2 0 in let w = turn.3 0 in let r = c.round-v.ensures in cc) (omega (arith, turn.0)) refl (omega (arith, l))
+
 pub returns : goal.returns
 returns c = λ t s words e a b.
-    let ks = c.args.ks.now in
-    let ws = c.args.ws.now in
-    let e0 = round_among {n = t + 1} t 0 s words ks ws a b e c.round.ensures (omega arith) (omega arith) (omega arith) in
-    let e1 = round_among {n = t + 2} t 1 s words ks ws a b e0 c.round-2.ensures (omega arith) (omega arith) (omega arith) in
-    let e2 = round_among {n = t + 3} t 2 s words ks ws a b e1 c.round-3.ensures (omega arith) (omega arith) (omega arith) in
-    let e3 = round_among {n = t + 4} t 3 s words ks ws a b e2 c.round-4.ensures (omega arith) (omega arith) (omega arith) in
-    let e4 = round_among {n = t + 5} t 4 s words ks ws a b e3 c.round-5.ensures (omega arith) (omega arith) (omega arith) in
-    let e5 = round_among {n = t + 6} t 5 s words ks ws a b e4 c.round-6.ensures (omega arith) (omega arith) (omega arith) in
-    let e6 = round_among {n = t + 7} t 6 s words ks ws a b e5 c.round-7.ensures (omega arith) (omega arith) (omega arith) in
-    round_among {n = t + 8} t 7 s words ks ws a b e6 c.round-8.ensures (omega arith) (omega arith) (omega arith)
+    let end = zip_end c.args.ks.now c.args.ws.now c.loop-k.yielded c.into_iter-k-iterator.result c.loop-k.k-iterator c.next.new.self c.next.result (cc) (cc) c.loop-k.yielded_by c.in-None.is c.next.ensures.steps in
+    let n : length c.loop-k.yielded ≡ 8 = omega (arith, end) in
+    let v = c.loop-k.invariant t s words e a b in
+    cc
