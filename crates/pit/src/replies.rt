@@ -1,14 +1,14 @@
 // The answers of a console in words.
-ghost use Rattle.std.specs.Prelude.{◌≡◌, [], ◌++◌, IfSome, Some, string_bytes, OnOk};
-ghost use Rattle.rules.specs.Step.{refused, vote};
+ghost use Rattle.std.specs.Prelude.{◌≡◌, [], Some};
+ghost use Rattle.rules.specs.Step.{refused};
+ghost use Rattle.text.specs.Hexadecimal.{hex_written};
 ghost use Rattle.wire.specs.Format.{vote_bytes};
-ghost use Rattle.console.specs.Answered.{heard_answer, heard_handed, proposed_answer, proposed_handed, reply_answer, reply_handed, ticked_answer, ticked_handed};
+ghost use Rattle.console.specs.Answered.{reply_answer, reply_handed};
 ghost use Rattle.pit.specs.Told.{answer_told, handed_told};
 
-use console::answers::{Heard, Proposed, Reply, Ticked};
+use console::answers::{Heard, Reply, Ticked};
 use console::vote::SealedVote;
 use rules::refusal::Refusal;
-use std::alloc::AllocError;
 use std::fmt;
 use text::hex::Hex;
 use wire::message::Vote;
@@ -25,11 +25,16 @@ impl fmt::Display for Handed {
     }
 }
 
-// Adds a refusal by its number.
-pub fn write_refused(text: &mut String, refusal: &Refusal) -> Result<(), AllocError>
-    ensures { OnOk result (string_bytes text.new ≡ string_bytes text.old ++ answer_told (refused refusal.now) 0 []) }
-{
-    write!(text, "refused {}", refusal.number())
+// A refusal, shown by its number.
+#[derive(Clone, Copy)]
+pub struct Refused<'a>(pub &'a Refusal);
+
+impl fmt::Display for Refused<'_> {
+    ghost output = { λ r. Some (answer_told (refused r.0.now) 0 []) };
+
+    fn fmt<W: fmt::Write>(&self, f: &mut fmt::Formatter<W>) -> fmt::Result {
+        write!(f, "refused {}", self.0.number())
+    }
 }
 
 // The bytes of a vote message, written into the room for them.
@@ -43,54 +48,49 @@ fn bytes_of<'a>(message: &SealedVote, room: &'a mut [u8; Vote::LENGTH]) -> &'a [
     }
 }
 
-// Adds a vote message by its bytes.
-fn write_vote(text: &mut String, message: &SealedVote, handed: usize) -> Result<(), AllocError>
-    ensures { OnOk result (string_bytes text.new ≡ string_bytes text.old ++ answer_told (vote message.now.vote) handed []) }
-{
-    let mut room = [0; Vote::LENGTH];
-    let bytes = bytes_of(message, &mut room);
-    write!(text, "vote {}{}", Hex(bytes), Handed(handed))
-}
+// A vote message, shown by its bytes.
+#[derive(Clone, Copy)]
+struct VoteMessage<'a>(&'a SealedVote);
 
-fn write_ticked(text: &mut String, ticked: &Ticked) -> Result<(), AllocError>
-    ensures { OnOk result (string_bytes text.new ≡ string_bytes text.old ++ answer_told (ticked_answer ticked.now) (ticked_handed ticked.now) []) }
-{
-    match ticked {
-        Ticked::Turn(turn) => write!(text, "turn {}{}", turn.view(), Handed(0)),
-        Ticked::Vote(vote, handed) => write_vote(text, vote, *handed),
-        Ticked::Nothing => write!(text, "nothing{}", Handed(0)),
+impl fmt::Display for VoteMessage<'_> {
+    ghost output = { λ m. Some (hex_written (vote_bytes m.0.now.vote)) };
+
+    fn fmt<W: fmt::Write>(&self, f: &mut fmt::Formatter<W>) -> fmt::Result {
+        let mut room = [0; Vote::LENGTH];
+        write!(f, "{}", Hex(bytes_of(self.0, &mut room)))
     }
 }
 
-// Adds a proposal by its bytes, which stand at the start of the output.
-fn write_proposed(text: &mut String, proposed: &Proposed, out: &[u8]) -> Result<(), AllocError>
-    ensures { OnOk result (string_bytes text.new ≡ string_bytes text.old ++ answer_told (proposed_answer proposed.now) (proposed_handed proposed.now) out.now) }
-{
-    let message = Hex(&out[0..proposed.length.min(out.len())]);
-    write!(text, "proposal {}{}", message, Handed(proposed.handed))
+// The answer of a call, which left this output; a proposal stands at the output's start.
+#[derive(Clone, Copy)]
+pub struct Told<'a> {
+    pub reply: &'a Reply,
+    pub out: &'a [u8],
 }
 
-fn write_heard(text: &mut String, heard: &Heard) -> Result<(), AllocError>
-    ensures { OnOk result (string_bytes text.new ≡ string_bytes text.old ++ answer_told (heard_answer heard.now) (heard_handed heard.now) []) }
-{
-    match heard {
-        Heard::New(handed) => write!(text, "new{}", Handed(*handed)),
-        Heard::Known => write!(text, "known{}", Handed(0)),
-    }
-}
+impl fmt::Display for Told<'_> {
+    ghost output = { λ t. Some (answer_told (reply_answer t.reply.now) (reply_handed t.reply.now) t.out.now) };
 
-// Adds the answer of a call, which left this output.
-pub fn write_reply(text: &mut String, reply: &Reply, out: &[u8]) -> Result<(), AllocError>
-    ensures { OnOk result (string_bytes text.new ≡ string_bytes text.old ++ answer_told (reply_answer reply.now) (reply_handed reply.now) out.now) }
-{
-    match reply {
-        Reply::Opened => write!(text, "opened"),
-        Reply::Ticked(Ok(ticked)) => write_ticked(text, ticked),
-        Reply::Proposed(Ok(proposed)) => write_proposed(text, proposed, out),
-        Reply::Passed => write!(text, "passed"),
-        Reply::Heard(Ok(heard)) => write_heard(text, heard),
-        Reply::Ticked(Err(refusal)) => write_refused(text, refusal),
-        Reply::Proposed(Err(refusal)) => write_refused(text, refusal),
-        Reply::Heard(Err(refusal)) => write_refused(text, refusal),
+    fn fmt<W: fmt::Write>(&self, f: &mut fmt::Formatter<W>) -> fmt::Result {
+        match self.reply {
+            Reply::Opened => f.write_str("opened"),
+            Reply::Ticked(Ok(Ticked::Turn(turn))) => {
+                write!(f, "turn {}{}", turn.view(), Handed(0))
+            }
+            Reply::Ticked(Ok(Ticked::Vote(vote, handed))) => {
+                write!(f, "vote {}{}", VoteMessage(vote), Handed(*handed))
+            }
+            Reply::Ticked(Ok(Ticked::Nothing)) => write!(f, "nothing{}", Handed(0)),
+            Reply::Proposed(Ok(proposed)) => {
+                let message = &self.out[0..proposed.length.min(self.out.len())];
+                write!(f, "proposal {}{}", Hex(message), Handed(proposed.handed))
+            }
+            Reply::Passed => f.write_str("passed"),
+            Reply::Heard(Ok(Heard::New(handed))) => write!(f, "new{}", Handed(*handed)),
+            Reply::Heard(Ok(Heard::Known)) => write!(f, "known{}", Handed(0)),
+            Reply::Ticked(Err(refusal))
+            | Reply::Proposed(Err(refusal))
+            | Reply::Heard(Err(refusal)) => write!(f, "{}", Refused(refusal)),
+        }
     }
 }

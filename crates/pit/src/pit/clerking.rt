@@ -1,13 +1,12 @@
-ghost use Rattle.std.specs.Prelude.{◌≡◌, string_bytes, OnOk};
+ghost use Rattle.std.specs.Prelude.{◌≡◌, ◌-◌, ◌/◌, replicate, IfOk, IsOk, IsSome, None, vec_items, string_bytes, OnOk, ◌↔◌};
 ghost use Rattle.std.specs.Option.{option_map};
 ghost use Rattle.pit.specs.Pits.{LinePlayed, seat_at};
 
 use crate::pit::Pit;
-use crate::replies::write_refused;
+use crate::replies::Refused;
 use crate::seat::Seat;
 use crate::seat::holding::empty_shelf;
 use crate::trouble::Trouble;
-use console::permit::Permit;
 use console::permit::granting::permit;
 use console::request::{FullRequest, Request};
 use console::turn::Turn;
@@ -15,18 +14,8 @@ use host::board::EitherBoard;
 use host::seals::EitherSeals;
 use parts::seals::keyed::KeyedSeals;
 use parts::seals::stamp::OpenStamp;
-use rules::block::Block;
 use std::alloc::{AllocError, Global};
 use wire::order::Order;
-
-// No console has been opened yet.
-fn no_seats(heap: Global, n: u8) -> Result<Vec<Option<Seat>>, AllocError> {
-    let mut seats = Vec::new(heap);
-    for _ in 0..n {
-        seats.push(None)?;
-    }
-    Ok(seats)
-}
 
 // A request that comes to no console: a turn in it is passed.
 fn spend(request: FullRequest<'_, EitherSeals, EitherBoard>) {
@@ -41,30 +30,42 @@ fn spend(request: FullRequest<'_, EitherSeals, EitherBoard>) {
 }
 
 impl Pit {
-    // A pit of n consoles, none of them open; with keyed seals every key is zeros at first.
-    pub fn new(heap: Global, n: u8, keyed: bool) -> Result<Pit, AllocError> {
-        let seats = no_seats(heap, n)?;
-        let keys = if keyed { Some([[0; 32]; 16]) } else { None };
+    // A pit of n consoles, none of them open; they have keyed seals where there are keys, and else open stamps.
+    pub fn new(alloc: Global, n: u8, keys: Option<[[u8; 32]; 16]>) -> Result<Pit, AllocError>
+        ensures n { IfOk result (λ p. p.n ≡ n) }
+        ensures keys { IfOk result (λ p. p.keys ≡ keys) }
+        ensures seats { IfOk result (λ p. vec_items p.seats ≡ replicate n None) }
+    {
+        let mut seats = Vec::new(alloc);
+        seats.resize_with(n as usize, || None)?;
         Ok(Pit { n, keys, seats })
     }
 
     // How many consoles there are.
-    pub fn n(&self) -> u8 {
+    pub fn n(&self) -> u8
+        ensures { result ≡ self.now.n }
+    {
         self.n
     }
 
     // How many consoles make a quorum.
-    pub fn quorum(&self) -> u8 {
+    pub fn quorum(&self) -> u8
+        ensures { result ≡ self.now.n - (self.now.n - 1) / 3 }
+    {
         self.n - self.n.saturating_sub(1) / 3
     }
 
     // Sets the key of a number, which counts from the next opening of a console on.
-    pub fn set_key(&mut self, number: u8, key: [u8; 32]) -> Result<(), Trouble> {
+    pub fn set_key(&mut self, number: u8, key: [u8; 32]) -> Result<(), Trouble>
+        ensures n { self.new.n ≡ self.old.n }
+        ensures seats { self.new.seats ≡ self.old.seats }
+        ensures held { IsOk result ↔ IsSome self.old.keys }
+    {
         let Some(keys) = &mut self.keys else {
             return Err(Trouble::NoKeys);
         };
-        if number < 16 {
-            keys[number as usize] = key;
+        if let Some(slot) = keys.get_mut(number as usize) {
+            *slot = key;
         }
         Ok(())
     }
@@ -81,11 +82,14 @@ impl Pit {
     pub fn seat(&self, i: u8) -> Option<&Seat>
         ensures { option_map (λ x. x.now) result ≡ seat_at self.now i }
     {
-        let at = i as usize;
-        if at >= self.seats.len() {
-            return None;
-        }
-        self.seats[at].as_ref()
+        self.seats.get(i as usize)?.as_ref()
+    }
+
+    // The seat of an open console, to be changed.
+    fn seat_mut(&mut self, i: u8) -> Option<&mut Seat>
+        ensures { option_map (λ x. x.now) result ≡ seat_at self.old i }
+    {
+        self.seats.get_mut(i as usize)?.as_mut()
     }
 
     // Plays one line at an open console.
@@ -98,13 +102,17 @@ impl Pit {
     ) -> Result<(), Trouble>
         ensures { OnOk result (LinePlayed self.old i request.entry out.old self.new (string_bytes text.old) (string_bytes text.new)) }
     {
-        let at = i as usize;
-        if at >= self.seats.len() {
+        // Stays: (c) by `seat_mut`, whose clause on the lent seat stayed open at None, where a slot is put back as it was.
+        // Stays: (c) not by `seat_mut`: that a lent seat is put back was not proved where no console is open.
+        let Some(slot) = self.seats.get_mut(i as usize) else {
             spend(request);
             return Err(Trouble::NotOpen);
-        }
-        match &mut self.seats[at] {
-            Some(seat) => Ok(seat.play(text, request, out)?),
+        };
+        match slot {
+            Some(seat) => {
+                seat.play(text, request, out)?;
+                Ok(())
+            }
             None => {
                 spend(request);
                 Err(Trouble::NotOpen)
@@ -114,65 +122,39 @@ impl Pit {
 
     // Takes the turn that is held for a console, if there is one, to spend it.
     fn take_turn(&mut self, j: u8) -> Option<Turn> {
-        let at = j as usize;
-        if at >= self.seats.len() {
-            return None;
-        }
-        match &mut self.seats[at] {
-            Some(seat) => seat.take_turn(),
-            None => None,
-        }
-    }
-
-    // Whether the console is open.
-    fn is_open(&self, i: u8) -> bool {
-        self.seat(i).is_some()
+        self.seat_mut(j)?.take_turn()
     }
 
     // Opens a console over its own store, with a new board and a new shelf of so many slots, unless its number is not below n.
     pub fn open(
         &mut self,
         text: &mut String,
-        heap: Global,
+        alloc: Global,
         i: u8,
         slots: u16,
         board: EitherBoard,
     ) -> Result<(), Trouble> {
         let permit = match permit(self.n, i) {
             Ok(permit) => permit,
-            Err(refusal) => return Ok(write_refused(text, &refusal)?),
+            Err(refusal) => {
+                write!(text, "{}", Refused(&refusal))?;
+                return Ok(());
+            }
         };
-        let Some(seals) = self.seals(i) else {
-            return Err(Trouble::NotOpen);
-        };
-        let shelf = empty_shelf(heap, slots)?;
-        self.seat_down(text, i, permit, seals, board, shelf)
-    }
-
-    // Opens the console at its seat, or for the first time.
-    fn seat_down(
-        &mut self,
-        text: &mut String,
-        i: u8,
-        permit: Permit,
-        seals: EitherSeals,
-        board: EitherBoard,
-        shelf: Vec<Option<Block>>,
-    ) -> Result<(), Trouble> {
-        let at = i as usize;
-        if at >= self.seats.len() {
-            return Err(Trouble::NotOpen);
-        }
-        match &mut self.seats[at] {
-            Some(seat) => {
+        let seals = self.seals(i).ok_or(Trouble::NotOpen)?;
+        let shelf = empty_shelf(alloc, slots)?;
+        match self.seats.get_mut(i as usize) {
+            Some(Some(seat)) => {
                 seat.lend(shelf);
-                Ok(seat.play(text, FullRequest::OpenWith(seals, board), &mut [])?)
+                seat.play(text, FullRequest::OpenWith(seals, board), &mut [])?;
             }
-            slot => {
+            Some(slot) => {
                 *slot = Some(Seat::open(permit, seals, board, shelf));
-                Ok(write!(text, "opened")?)
+                write!(text, "opened")?;
             }
+            None => return Err(Trouble::NotOpen),
         }
+        Ok(())
     }
 
     // Proposes at console i, spending the turn that is held for console j.
@@ -184,38 +166,31 @@ impl Pit {
         orders: &[Order],
         out: &mut [u8],
     ) -> Result<(), Trouble> {
-        if !self.is_open(i) {
+        if self.seat(i).is_none() {
             return Err(Trouble::NotOpen);
         }
-        match self.take_turn(j) {
-            Some(turn) => self.play(
-                text,
-                i,
-                FullRequest::Plain(Request::Propose(turn, orders)),
-                out,
-            ),
-            None => Ok(write!(text, "no turn held")?),
-        }
+        let Some(turn) = self.take_turn(j) else {
+            write!(text, "no turn held")?;
+            return Ok(());
+        };
+        let request = FullRequest::Plain(Request::Propose(turn, orders));
+        self.play(text, i, request, out)
     }
 
     // Passes the turn that is held for console j.
     pub fn pass(&mut self, text: &mut String, j: u8) -> Result<(), Trouble> {
-        match self.take_turn(j) {
-            Some(turn) => self.play(text, j, FullRequest::Plain(Request::Pass(turn)), &mut []),
-            None => Ok(write!(text, "no turn held")?),
-        }
+        let Some(turn) = self.take_turn(j) else {
+            write!(text, "no turn held")?;
+            return Ok(());
+        };
+        let request = FullRequest::Plain(Request::Pass(turn));
+        self.play(text, j, request, &mut [])
     }
 
     // Lends an open console a new shelf of so many empty slots.
-    pub fn lend(&mut self, heap: Global, i: u8, slots: u16) -> Result<(), Trouble> {
-        let shelf = empty_shelf(heap, slots)?;
-        let at = i as usize;
-        if at >= self.seats.len() {
-            return Err(Trouble::NotOpen);
-        }
-        match &mut self.seats[at] {
-            Some(seat) => Ok(seat.lend(shelf)),
-            None => Err(Trouble::NotOpen),
-        }
+    pub fn lend(&mut self, alloc: Global, i: u8, slots: u16) -> Result<(), Trouble> {
+        let shelf = empty_shelf(alloc, slots)?;
+        self.seat_mut(i).ok_or(Trouble::NotOpen)?.lend(shelf);
+        Ok(())
     }
 }

@@ -33,10 +33,10 @@ fn new_store() -> Image
 }
 
 // A shelf of so many empty slots.
-pub fn empty_shelf(heap: Global, slots: u16) -> Result<Vec<Option<Block>>, AllocError>
+pub fn empty_shelf(alloc: Global, slots: u16) -> Result<Vec<Option<Block>>, AllocError>
     ensures { IfOk result (λ v. v.items ≡ replicate slots None) }
 {
-    vec![in heap; None; slots as usize]
+    vec![in alloc; None; slots as usize]
 }
 
 impl Seat {

@@ -6,7 +6,7 @@ ghost use Rattle.console.specs.Requested.{full_call_of, keys_from, world_from};
 ghost use Rattle.pit.specs.Seats.{Plays, seat_keys, seat_world, state_of, turn_kept};
 
 use super::Seat;
-use crate::replies::write_reply;
+use crate::replies::Told;
 use console::answers::{Reply, Ticked};
 use console::console::Console;
 use console::request::FullRequest;
@@ -65,7 +65,7 @@ impl Seat {
         ensures { OnOk result (Plays self.old request.entry out.old self.new (string_bytes text.old) (string_bytes text.new)) }
     {
         let reply = self.enter(request, out);
-        let told = write_reply(text, &reply, out);
+        let told = write!(text, "{}", Told { reply: &reply, out });
         self.keep(reply);
         told
     }
