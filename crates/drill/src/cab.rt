@@ -28,12 +28,12 @@ impl Drop for Cab {
 impl Cab {
     // Opens a console with keyed seals, a tonnage board and 64 slots; none if there is no such number in a pit of n.
     pub fn open(
-        heap: Global,
+        alloc: Global,
         n: u8,
         own: u8,
         keys: &[[u8; 32]; 16],
     ) -> Result<Option<Cab>, AllocError> {
-        let mut shelf = vec![in heap; None; 64]?;
+        let mut shelf = vec![in alloc; None; 64]?;
         let Ok(permit) = permit(n, own) else {
             return Ok(None);
         };

@@ -6,13 +6,21 @@ use wire::message::{Proposal, Vote};
 use wire::order::Order;
 
 // What was done so far.
-#[derive(Clone, Copy)]
+#[derive(Clone, Copy, Default)]
 pub struct Counts {
     pub calls: u64,
     pub proposals: u64,
     pub votes: u64,
     // blocks handed over, at all consoles together
     pub handed: u64,
+}
+
+impl Counts {
+    // One call more, which handed over so many blocks.
+    fn add_call(&mut self, handed: usize) {
+        self.calls = self.calls.saturating_add(1);
+        self.handed = self.handed.saturating_add(handed as u64);
+    }
 }
 
 // The consoles of a pit, and the votes of the view that is being played.
@@ -25,46 +33,46 @@ pub struct Drill {
 
 // Eight loads, each to a place of its own.
 fn loads() -> [Order; 8] {
-    let mut orders = [Order::Release { truck: 1 }; 8];
-    for i in 0..8u16 {
-        orders[i as usize] = Order::Load {
-            truck: i + 1,
-            place: i + 1,
-            amount: 100,
-        };
-    }
-    orders
+    [1, 2, 3, 4, 5, 6, 7, 8].map(|number| Order::Load {
+        truck: number,
+        place: number,
+        amount: 100,
+    })
 }
 
 // A key for each number.
 fn keys() -> [[u8; 32]; 16] {
-    let mut keys = [[0; 32]; 16];
-    for i in 0..16u8 {
-        keys[i as usize] = [i + 1; 32];
+    [1, 2, 3, 4, 5, 6, 7, 8, 9, 10, 11, 12, 13, 14, 15, 16].map(|byte| [byte; 32])
+}
+
+// The bytes are heard by every console but the one that made them.
+fn tell_others(cabs: &mut [Cab], counts: &mut Counts, from: usize, bytes: &[u8]) {
+    for (i, cab) in cabs.iter_mut().enumerate() {
+        if i == from {
+            continue;
+        }
+        match cab.hear(bytes) {
+            Ok(Heard::New(handed)) => counts.add_call(handed),
+            Ok(Heard::Known) => counts.add_call(0),
+            Err(_) => {}
+        }
     }
-    keys
 }
 
 impl Drill {
     // A pit of n consoles, all open; an empty one if there is no pit of that size.
-    pub fn new(heap: Global, n: u8) -> Result<Drill, AllocError> {
-        let mut cabs = Vec::new(heap);
+    pub fn new(alloc: Global, n: u8) -> Result<Drill, AllocError> {
+        let mut cabs = Vec::new(alloc);
         let keys = keys();
         for own in 0..n {
-            if let Some(cab) = Cab::open(heap, n, own, &keys)? {
+            if let Some(cab) = Cab::open(alloc, n, own, &keys)? {
                 cabs.push(cab)?;
             }
         }
-        let counts = Counts {
-            calls: 0,
-            proposals: 0,
-            votes: 0,
-            handed: 0,
-        };
         Ok(Drill {
             cabs,
-            votes: Vec::new(heap),
-            counts,
+            votes: Vec::new(alloc),
+            counts: Counts::default(),
         })
     }
 
@@ -74,69 +82,48 @@ impl Drill {
 
     // How many blocks the first console handed over.
     pub fn first_count(&self) -> u64 {
-        match self.cabs.first() {
-            Some(cab) => cab.count(),
-            None => 0,
-        }
-    }
-
-    fn count_call(&mut self, handed: usize) {
-        self.counts.calls = self.counts.calls.saturating_add(1);
-        self.counts.handed = self.counts.handed.saturating_add(handed as u64);
+        self.cabs.first().map_or(0, |cab| cab.count())
     }
 
     // Ticks one console; its vote is kept, and its turn answered.
     fn tick(&mut self, i: usize, t: u32) -> Result<Option<Turn>, AllocError> {
-        if i >= self.cabs.len() {
+        let Some(cab) = self.cabs.get_mut(i) else {
             return Ok(None);
-        }
-        match self.cabs[i].tick(t) {
+        };
+        match cab.tick(t) {
             Ok(Ticked::Turn(turn)) => {
-                self.count_call(0);
+                self.counts.add_call(0);
                 Ok(Some(turn))
             }
             Ok(Ticked::Vote(vote, handed)) => {
-                self.count_call(handed);
+                self.counts.add_call(handed);
                 let mut bytes = [0; Vote::LENGTH];
                 let _ = vote.write(&mut bytes);
                 self.votes.push(bytes)?;
                 Ok(None)
             }
             Ok(Ticked::Nothing) => {
-                self.count_call(0);
+                self.counts.add_call(0);
                 Ok(None)
             }
             Err(_) => Ok(None),
         }
     }
 
-    // The bytes are heard by every console but the one that made them.
-    fn tell_others(&mut self, from: usize, bytes: &[u8]) {
-        for i in 0..self.cabs.len() {
-            if i == from || i >= self.cabs.len() {
-                continue;
-            }
-            match self.cabs[i].hear(bytes) {
-                Ok(Heard::New(handed)) => self.count_call(handed),
-                Ok(Heard::Known) => self.count_call(0),
-                Err(_) => {}
-            }
-        }
-    }
-
     // Spends a turn on eight loads, which all others hear.
     fn propose(&mut self, i: usize, turn: Turn) {
-        if i >= self.cabs.len() {
+        let Some(cab) = self.cabs.get_mut(i) else {
             turn.pass();
             return;
-        }
+        };
         let mut out = [0; Proposal::LONGEST];
-        let Ok(proposed) = self.cabs[i].propose(turn, &loads(), &mut out) else {
+        let Ok(proposed) = cab.propose(turn, &loads(), &mut out) else {
             return;
         };
-        self.count_call(proposed.handed);
+        self.counts.add_call(proposed.handed);
         self.counts.proposals = self.counts.proposals.saturating_add(1);
-        self.tell_others(i, &out[0..proposed.length.min(Proposal::LONGEST)]);
+        let message = &out[0..proposed.length.min(Proposal::LONGEST)];
+        tell_others(self.cabs.as_mut_slice(), &mut self.counts, i, message);
     }
 
     // Every console ticks for the view; its leader's turn is answered with the leader's number.
@@ -174,20 +161,11 @@ impl Drill {
         Ok(())
     }
 
-    // The i-th vote of the view.
-    fn vote(&self, i: usize) -> [u8; Vote::LENGTH] {
-        match self.votes.get(i) {
-            Some(bytes) => *bytes,
-            None => [0; Vote::LENGTH],
-        }
-    }
-
     // All hear the votes of the others.
     fn tell_votes(&mut self) {
-        for i in 0..self.votes.len() {
-            let bytes = self.vote(i);
+        for (i, bytes) in self.votes.iter().enumerate() {
             self.counts.votes = self.counts.votes.saturating_add(1);
-            self.tell_others(i, &bytes);
+            tell_others(self.cabs.as_mut_slice(), &mut self.counts, i, bytes);
         }
         self.votes.clear();
     }
