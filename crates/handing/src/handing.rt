@@ -26,10 +26,7 @@ struct Listener {
 
 // The stamp of a console below 16, which anybody can make.
 fn stamp(signer: u8, purpose: Purpose, block: Key) -> [u8; 16] {
-    match OpenStamp::new(signer) {
-        Some(seals) => seals.seal(&Statement { purpose, block }),
-        None => [0; 16],
-    }
+    OpenStamp::new(signer).map_or([0; 16], |seals| seals.seal(&Statement { purpose, block }))
 }
 
 // A body without orders.
@@ -46,8 +43,8 @@ fn body(view: u32, parent: Key) -> Option<Body> {
 fn certificate(block: Key) -> Certificate {
     let mut signers = Signers::none();
     signers.set = 7;
-    for i in 0..3u8 {
-        signers.seals[i as usize] = stamp(i, Purpose::Vote, block);
+    for (signer, seal) in (0..3u8).zip(signers.seals.iter_mut()) {
+        *seal = stamp(signer, Purpose::Vote, block);
     }
     Certificate { block, signers }
 }
@@ -65,9 +62,7 @@ impl Drop for Listener {
 
 impl Listener {
     fn open() -> Option<Listener> {
-        let Ok(permit) = permit(4, 0) else {
-            return None;
-        };
+        let permit = permit(4, 0).ok()?;
         let seals = OpenStamp::new(0)?;
         let store = HeldNumbers::new(Marks {
             lock: 0,
