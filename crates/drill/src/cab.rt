@@ -13,16 +13,10 @@ use rules::refusal::Refusal;
 use std::alloc::{AllocError, Global};
 use wire::order::Order;
 
+#[derive(Drop)]
 pub struct Cab {
     console: Console<KeyedSeals, HeldNumbers, Tonnage>,
     shelf: Vec<Option<Block>>,
-}
-
-impl Drop for Cab {
-    fn drop(self) {
-        let Cab { console, shelf: _ } = self;
-        let _ = console.close();
-    }
 }
 
 impl Cab {
@@ -40,11 +34,7 @@ impl Cab {
         let Some(seals) = KeyedSeals::new(own, keys) else {
             return Ok(None);
         };
-        let store = HeldNumbers::new(Marks {
-            lock: 0,
-            voted: 0,
-            proposed: 0,
-        });
+        let store = HeldNumbers::new(Marks::default());
         let console = open(permit, seals, store, Tonnage::new(), shelf.as_mut_slice());
         Ok(Some(Cab { console, shelf }))
     }

@@ -97,9 +97,7 @@ impl Drill {
             }
             Ok(Ticked::Vote(vote, handed)) => {
                 self.counts.add_call(handed);
-                let mut bytes = [0; Vote::LENGTH];
-                let _ = vote.write(&mut bytes);
-                self.votes.push(bytes)?;
+                self.votes.push(vote.vote().bytes())?;
                 Ok(None)
             }
             Ok(Ticked::Nothing) => {

@@ -17,6 +17,7 @@ use wire::orders::Orders;
 use wire::statement::{Purpose, Statement};
 
 // A console of a pit of four, with its shelf.
+#[derive(Drop)]
 struct Listener {
     console: Console<OpenStamp, HeldNumbers, Tonnage>,
     shelf: [Option<Block>; 8],
@@ -49,26 +50,11 @@ fn certificate(block: Key) -> Certificate {
     Certificate { block, signers }
 }
 
-impl Drop for Listener {
-    fn drop(self) {
-        let Listener {
-            console,
-            shelf: _,
-            handed: _,
-        } = self;
-        let _ = console.close();
-    }
-}
-
 impl Listener {
     fn open() -> Option<Listener> {
         let permit = permit(4, 0).ok()?;
         let seals = OpenStamp::new(0)?;
-        let store = HeldNumbers::new(Marks {
-            lock: 0,
-            voted: 0,
-            proposed: 0,
-        });
+        let store = HeldNumbers::new(Marks::default());
         let mut shelf = [None; 8];
         let console = open(permit, seals, store, Tonnage::new(), &mut shelf);
         Some(Listener {
@@ -106,10 +92,7 @@ impl Listener {
                 voter,
                 seal: stamp(voter, Purpose::Vote, block),
             };
-            let mut out = [0; Vote::LENGTH];
-            if vote.write(&mut out).is_some() {
-                self.hear(&out);
-            }
+            self.hear(&vote.bytes());
         }
     }
 

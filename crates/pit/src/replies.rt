@@ -11,7 +11,6 @@ use console::vote::SealedVote;
 use rules::refusal::Refusal;
 use std::fmt;
 use text::hex::Hex;
-use wire::message::Vote;
 
 // How many blocks a call handed over, as its answer ends.
 #[derive(Clone, Copy)]
@@ -33,18 +32,7 @@ impl fmt::Display for Refused<'_> {
     ghost output = { λ r. Some (answer_told (refused r.0.now) 0 []) };
 
     fn fmt<W: fmt::Write>(&self, f: &mut fmt::Formatter<W>) -> fmt::Result {
-        write!(f, "refused {}", self.0.number())
-    }
-}
-
-// The bytes of a vote message, written into the room for them.
-fn bytes_of<'a>(message: &SealedVote, room: &'a mut [u8; Vote::LENGTH]) -> &'a [u8]
-    ensures { result.now ≡ vote_bytes message.now.vote }
-{
-    let vote = message.vote();
-    match vote.write(room) {
-        Some(length) => &room[0..length],
-        None => &room[0..0],
+        write!(f, "refused {}", self.0)
     }
 }
 
@@ -56,8 +44,7 @@ impl fmt::Display for VoteMessage<'_> {
     ghost output = { λ m. Some (hex_written (vote_bytes m.0.now.vote)) };
 
     fn fmt<W: fmt::Write>(&self, f: &mut fmt::Formatter<W>) -> fmt::Result {
-        let mut room = [0; Vote::LENGTH];
-        write!(f, "{}", Hex(bytes_of(self.0, &mut room)))
+        write!(f, "{}", Hex(&self.0.vote().bytes()))
     }
 }
 

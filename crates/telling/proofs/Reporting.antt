@@ -24,8 +24,8 @@ message_read n datagram (reading.Proposal body certificate seal p) was parts =
 message_read n datagram (reading.Vote seal v) was parts =
     rw (part_same _ _ _ _ parts.0 (ap length parts.1)) (read_as n datagram (Ok (message.Vote v)) was)
 
-pub refusal_read : (n : ℕ) (datagram : List ℕ) (e : Unreadable) (k : ℕ) → Err e ≡ read n datagram → k ≡ code e → reading_told n datagram ≡ codes "refused " ++ decimal k
-refusal_read n datagram e k read number = rw number (read_as n datagram (Err e) read)
+pub refusal_read : (n : ℕ) (datagram : List ℕ) (e : Unreadable) → Err e ≡ read n datagram → reading_told n datagram ≡ codes "refused " ++ decimal (code e)
+refusal_read n datagram e read = read_as n datagram (Err e) read
 
 -- `write!` writes the first twelve pieces of a format as one text
 pub regrouped :

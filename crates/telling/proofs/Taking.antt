@@ -1,6 +1,7 @@
 -- Orders that a board takes, and the text of their effects.
-use Rattle.std.proofs.Common.{◌≡◌, ℕ, ◌<◌, ◌≤◌, Bool, true, false, List, [], ◌∷◌, ◌++◌, length, IfOk, codes, Result, refl, append_assoc, le-leb}
+use Rattle.std.proofs.Common.{◌≡◌, ℕ, ◌<◌, ◌≤◌, Bool, true, false, List, [], ◌∷◌, ◌++◌, length, IfOk, codes, decimal, Result, refl, sym, ap, lit<, append_assoc, le-leb}
 use borrow.Author.Tests.{lt-leb}
+use Rattle.std.proofs.lemmas.Fmt.{decimal_digit}
 use Rattle.std.proofs.lemmas.Result.{IfOk-weaker}
 use Rattle.wire.specs.Read.{all_well_formed}
 use Rattle.wire.specs.declared.order.Order.{Order}
@@ -22,13 +23,17 @@ board_after r told after shown fresh w v start effects now new said moved =
     (λ _ added. let whole = append_assoc start (told fresh) (codes "; " ++ shown (after fresh)) in cc)
 
 -- which orders are refused
-pub trial_of_many : (board : NewBoard) (os : List Order) → 8 < length os → trial_told board os ≡ codes " refused 7"
-unfolding trial_told
-trial_of_many board os many = let above = lt-leb (length os) 8 many in rw above
+-- bad orders, shown by their number
+bad_orders : codes " refused 7" ≡ codes " refused " ++ decimal 7
+bad_orders = ap (λ (n : List ℕ). codes " refused " ++ n) (sym (decimal_digit 7 (lit< tt)))
 
-pub trial_of_ill : (board : NewBoard) (os : List Order) → length os ≤ 8 → all_well_formed os ≡ false → trial_told board os ≡ codes " refused 7"
+pub trial_of_many : (board : NewBoard) (os : List Order) → 8 < length os → trial_told board os ≡ codes " refused " ++ decimal 7
 unfolding trial_told
-trial_of_ill board os few ill = let below = le-leb (length os) 8 few in rw (below, ill)
+trial_of_many board os many = let above = lt-leb (length os) 8 many in rw above bad_orders
+
+pub trial_of_ill : (board : NewBoard) (os : List Order) → length os ≤ 8 → all_well_formed os ≡ false → trial_told board os ≡ codes " refused " ++ decimal 7
+unfolding trial_told
+trial_of_ill board os few ill = let below = le-leb (length os) 8 few in rw (below, ill) bad_orders
 
 pub trial_of_fair : (board : NewBoard) (os : List Order) → length os ≤ 8 → all_well_formed os ≡ true → trial_told board os ≡ taken_told board os
 unfolding trial_told

@@ -24,24 +24,27 @@ impl fmt::Display for Placed<'_> {
     }
 }
 
-// Writes a console's number after a space, if the console is in the set.
-fn write_signer<W: fmt::Write>(f: &mut fmt::Formatter<W>, set: u16, console: u16) -> fmt::Result
-    requires { console < 16 }
-    ensures { WritesOnOk W.write_str_gives f.old result (if signed set console then codes " " ++ decimal console else []) f.new }
+// Writes a console's number after a space, if the console has signed.
+fn write_signer<W: fmt::Write>(
+    f: &mut fmt::Formatter<W>,
+    signers: &Signers,
+    console: u8,
+) -> fmt::Result
+    ensures { WritesOnOk W.write_str_gives f.old result (if signed signers.now.set console then codes " " ++ decimal console else []) f.new }
 {
-    if (set >> console) % 2 == 1 {
+    if signers.has(console) {
         write!(f, " {console}")
     } else {
         Ok(())
     }
 }
 
-// Writes the consoles of a set, by rising number.
-fn write_each_signer<W: fmt::Write>(f: &mut fmt::Formatter<W>, set: u16) -> fmt::Result
-    ensures { WritesOnOk W.write_str_gives f.old result (led (codes " ") (map decimal (consoles set))) f.new }
+// Writes the consoles that have signed, by rising number.
+fn write_each_signer<W: fmt::Write>(f: &mut fmt::Formatter<W>, signers: &Signers) -> fmt::Result
+    ensures { WritesOnOk W.write_str_gives f.old result (led (codes " ") (map decimal (consoles signers.now.set))) f.new }
 {
-    for console in 0..16u16 {
-        write_signer(f, set, console)?;
+    for console in 0..16u8 {
+        write_signer(f, signers, console)?;
     }
     Ok(())
 }
@@ -54,11 +57,12 @@ impl fmt::Display for SignerList<'_> {
     ghost output = { λ s. Some (signers_told s.0.now.set) };
 
     fn fmt<W: fmt::Write>(&self, f: &mut fmt::Formatter<W>) -> fmt::Result {
-        let set = self.0.set;
+        let signers = self.0;
+        let set = signers.set;
         if set == 0 {
             f.write_str(" -")
         } else {
-            write_each_signer(f, set)
+            write_each_signer(f, signers)
         }
     }
 }
@@ -119,7 +123,7 @@ impl fmt::Display for Said<'_> {
     fn fmt<W: fmt::Write>(&self, f: &mut fmt::Formatter<W>) -> fmt::Result {
         match read(self.n, self.datagram) {
             Ok(reading) => write!(f, "{}", Message(reading)),
-            Err(refusal) => write!(f, "refused {}", refusal.number()),
+            Err(refusal) => write!(f, "refused {refusal}"),
         }
     }
 }

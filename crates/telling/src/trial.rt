@@ -11,6 +11,7 @@ use boards::assignment::board::Assignment;
 use boards::assignment::line::Line;
 use boards::tonnage::Tonnage;
 use parts::board::Board;
+use rules::refusal::Refusal;
 use script::command::NewBoard;
 use std::alloc::{AllocError, Global};
 use std::fmt;
@@ -97,7 +98,7 @@ pub fn write_trial(
     ensures { Adds text.old result (trial_told board orders.now) text.new }
 {
     if orders.len() > 8 || !well_formed(orders) {
-        return write!(text, " refused 7");
+        return write!(text, " refused {}", Refusal::BadOrders);
     }
     match board {
         NewBoard::Assignment { lines, limit } => try_assignment(text, alloc, lines, limit, orders),

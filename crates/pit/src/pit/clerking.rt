@@ -12,6 +12,7 @@ use console::request::{FullRequest, Request};
 use console::turn::Turn;
 use host::board::EitherBoard;
 use host::seals::EitherSeals;
+use ledger::quorum::quorum_of;
 use parts::seals::keyed::KeyedSeals;
 use parts::seals::stamp::OpenStamp;
 use std::alloc::{AllocError, Global};
@@ -52,7 +53,7 @@ impl Pit {
     pub fn quorum(&self) -> u8
         ensures { result ≡ self.now.n - (self.now.n - 1) / 3 }
     {
-        self.n - self.n.saturating_sub(1) / 3
+        quorum_of(self.n)
     }
 
     // Sets the key of a number, which counts from the next opening of a console on.
@@ -102,8 +103,7 @@ impl Pit {
     ) -> Result<(), Trouble>
         ensures { OnOk result (LinePlayed self.old i request.entry out.old self.new (string_bytes text.old) (string_bytes text.new)) }
     {
-        // Stays: (c) by `seat_mut`, whose clause on the lent seat stayed open at None, where a slot is put back as it was.
-        // Stays: (c) not by `seat_mut`: that a lent seat is put back was not proved where no console is open.
+        // Stays: not by `seat_mut`; that a lent seat is put back was not proved where no console is open.
         let Some(slot) = self.seats.get_mut(i as usize) else {
             spend(request);
             return Err(Trouble::NotOpen);

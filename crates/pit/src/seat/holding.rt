@@ -14,8 +14,8 @@ use console::turn::Turn;
 use host::board::EitherBoard;
 use host::seals::EitherSeals;
 use parts::board::Board;
+use parts::store::Marks;
 use parts::store::image::Image;
-use parts::store::{Marks, Store};
 use rules::block::Block;
 use std::alloc::{AllocError, Global};
 
@@ -23,13 +23,7 @@ use std::alloc::{AllocError, Global};
 fn new_store() -> Image
     ensures { result.bytes ≡ image no_marks }
 {
-    let mut store = Image::new([0; 14]);
-    store.save(Marks {
-        lock: 0,
-        voted: 0,
-        proposed: 0,
-    });
-    store
+    Image::from(Marks::default())
 }
 
 // A shelf of so many empty slots.

@@ -9,4 +9,4 @@ returns-in-Ok-clause-writes g c plain ok =
 pub returns-in-Err-clause-writes : goal.returns-in-Err-clause-writes
 returns-in-Err-clause-writes g c plain ok =
     let was = c.in-Err.ensures in
-    rw (refusal_read c.args.self.now.n c.args.self.now.datagram.now c.in-Err.refusal c.number.result was.message c.number.ensures) (c.write-in-Err.ensures.writes plain ok)
+    rw (refusal_read c.args.self.now.n c.args.self.now.datagram.now c.in-Err.refusal was.message) (c.write-in-Err.ensures.writes plain ok)
