@@ -59,6 +59,7 @@ impl Body {
     }
 
     // Writes the body at the start of `out` and answers its length, unless there is too little room.
+    // Stays: a trait of `size` and `put` for this and the other records' `write` would be longer than their bodies.
     pub fn write(&self, out: &mut [u8]) -> Option<usize>
         ensures { Written (body_bytes self.now) out.old result out.new }
     {

@@ -39,6 +39,7 @@ pub(crate) fn count(set: u16) -> usize
 }
 
 // How many bytes the signers' seals take.
+// Stays: of a method of `Signers`, `length (packed self.now)` was left open, since no seal's length is known through `self`.
 fn seals_size(set: u16, seals: &[[u8; 16]]) -> usize
     requires { length seals.now ≡ 16 }
     ensures bytes { result ≡ length (packed_below 16 set seals.now) }
@@ -80,6 +81,7 @@ fn seals_in(set: u16, bytes: &[u8]) -> [[u8; 16]; 16]
 
 impl Signers {
     // No console.
+    // Stays: it is named for what it is in the format; a derived `default` would say only that its fields are zeros.
     pub fn none() -> Signers
         ensures { result ≡ no_signers }
     {
@@ -100,6 +102,7 @@ impl Signers {
 
 impl Certificate {
     // The certificate of the origin: it has no signers.
+    // Stays: it is named for what it is in the format; a derived `default` would say only that its fields are zeros.
     pub fn origin() -> Certificate
         ensures { result ≡ origin_certificate }
     {
