@@ -16,6 +16,7 @@ pub struct Orders {
 
 impl Orders {
     // These orders, unless there are more than eight.
+    // Stays: a `TryFrom` would need an error type that says no more than `None`.
     pub fn new(orders: &[Order]) -> Option<Orders>
         ensures { result ≡ (if nat_le (length orders.now) 8 then Some (pack orders.now) else None) }
     {
