@@ -1,7 +1,7 @@
-use Rattle.std.proofs.Common.{◌≡◌, ℕ, ◌<◌, sym, ap, ◌∙◌, arith, rules}
+use Rattle.std.proofs.Common.{◌<◌, sym, ap, ◌∙◌, arith, rules}
 use Rattle.wire.specs.Format.{packed_below}
 use Rattle.wire.specs.declared.put.Writer.{Writer}
-use Rattle.wire.proofs.Signing.{before, before_none, before-all, before_in, before_out, before_signer, packed_in, packed_out}
+use Rattle.wire.proofs.Signing.{before_none, before_in, before_out, before_signer, packed_in, packed_out}
 use Rattle.wire.proofs.Writing.{puts_as, puts_is, puts_none, puts_then}
 use Rattle.wire.proofs.certificate.put_seals.Goals as goal
 use Rattle.wire.proofs.certificate.put_seals.Goals.{then-has, else-has}
@@ -38,14 +38,3 @@ loop-i-preserved c =
             puts_is w.out-is (puts_as (packed_out c.args.set c.args.seals.now c.loop-i.i s) c.loop-i.invariant.1),
           )
     ]
-
-pub returns : goal.returns
-returns c =
-    let set : c.args.set < 65536 = search rules in
-    let all = before-all c.args.set set in
-    let end : c.loop-i.i ≡ 16 = omega arith in
-    let n = ap (before c.args.set) end in
-    record {
-      ends = omega arith;
-      wrote = puts_as (ap (λ (j : ℕ). packed_below j c.args.set c.args.seals.now) end) c.loop-i.invariant.1;
-    }

@@ -1,13 +1,10 @@
-use Rattle.std.proofs.Common.{◌≡◌, ℕ, ◌<◌, sym, refl, ap, ◌∙◌, arith, rules}
+use Rattle.std.proofs.Common.{◌≡◌, ℕ, ◌<◌, sym, ap, ◌∙◌, arith, rules}
 use Rattle.std.proofs.lemmas.List.{set-get_or}
 use Rattle.wire.specs.Bytes.{field}
 use Rattle.wire.specs.Read.{seals_in}
-use Rattle.wire.proofs.Signing.{before_none, before_in, before_out, before_signer, spread, spread_in, spread_out}
+use Rattle.wire.proofs.Signing.{before_in, before_out, before_signer, spread, spread_in, spread_out}
 use Rattle.wire.proofs.certificate.seals_in.Goals as goal
 use Rattle.wire.proofs.certificate.seals_in.Goals.{then-has, else-has}
-
-pub loop-i-init : goal.loop-i-init
-loop-i-init c = let n = before_none c.args.set in (omega arith, refl)
 
 pub array_at-requires : goal.array_at-requires
 array_at-requires c =
