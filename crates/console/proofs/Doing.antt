@@ -42,19 +42,20 @@ with_candidate_and_ledger s candidate g =
       ledger = g;
     }
 
--- the same outcome under another name
-pub does_as :
-    {W : Type 0} (rule : W → Order → W) (keys : Keys) (o p : Outcome) (seal : List ℕ) (w : W) (out : List ℕ) (after : After W) →
-    p ≡ o → Does rule keys o seal w out after → Does rule keys p seal w out after
-does_as rule keys o p seal w out after e d = subst (λ (x : Outcome). Does rule keys x seal w out after) (sym e) d
+module _ {W : Type 0} {rule : W → Order → W} {keys : Keys} {seal : List ℕ} {w : W} {out : List ℕ} where
+  -- the same outcome under another name
+  pub does_as : {o p : Outcome} {after : After W} → p ≡ o → Does rule keys o seal w out after → Does rule keys p seal w out after
+  does_as {after = after} e d = subst (λ (x : Outcome). Does rule keys x seal w out after) (sym e) d
 
--- an answer alone: nothing was handed over or written
-pub does_only :
-    {W : Type 0} (rule : W → Order → W) (keys : Keys) (a b : Answer) (s t : State) (seal : List ℕ) (w : W) (out : List ℕ) →
-    a ≡ b → s ≡ t →
-    Does rule keys (only b t) seal w out (record { answer = a; state = s; handed = 0; world = w; output = out })
-does_only rule keys a b s t seal w out ea es =
-    record { sealed = tt; answer = ea; state = es; number = refl; board = sym (fed_none rule w); output = refl }
+  -- an answer alone: nothing was handed over or written
+  pub does_only : {a b : Answer} {s t : State} → a ≡ b → s ≡ t →
+      Does rule keys (only b t) seal w out (record { answer = a; state = s; handed = 0; world = w; output = out })
+  does_only ea es = record { sealed = tt; answer = ea; state = es; number = refl; board = sym (fed_none rule w); output = refl }
+
+  -- an outcome that is an answer alone
+  pub does_alone : {o : Outcome} {a : Answer} {s : State} → o ≡ only a s →
+      Does rule keys o seal w out (record { answer = a; state = s; handed = 0; world = w; output = out })
+  does_alone e = does_as e (does_only refl refl)
 
 -- what the ledger's functions say of settling, at the ledger that the rules have there
 pub settled_at :

@@ -13,8 +13,9 @@ use Rattle.wire.specs.declared.message.Vote.{Vote}
 use Rattle.wire.specs.declared.order.Order.{Order}
 use Rattle.console.specs.Does.{After, Did, Does}
 use Rattle.console.specs.Lines.{Advances}
-use Rattle.console.specs.Requested.{full_call_of, keys_from, world_from}
+use Rattle.console.specs.Requested.{call_of, full_call_of, keys_from, world_from}
 use Rattle.console.specs.declared.request.FullRequest.{FullRequest}
+use Rattle.console.specs.declared.request.Request.{Request}
 
 abbrev pub Silent : Outcome → Type 0
 Silent o = o.written ≡ []
@@ -63,12 +64,28 @@ does_beside rule keys o seal w out after e d =
       output = sym (ap (λ (x : List ℕ). x ++ drop (length x) out) e);
     }
 
+-- the same of a call
+pub quietly :
+    {W : Type 0} {rule : W → Order → W} {keys : Keys} {w : W} {out : List ℕ} {after : After W} (s : State) (call : Call) →
+    ((seal : List ℕ) → Silent (step keys.table seal s call)) → Did rule keys s call w [] after →
+    Did rule keys s call w out
+    (record { answer = after.answer; state = after.state; handed = after.handed; world = after.world; output = out })
+quietly s call e d = (d.0, does_beside _ _ _ _ _ _ _ (e d.0) d.1)
+
 -- a call by its step is one by the sheet's line
 pub did_advances :
-    {W : Type 0} (rule : W → Order → W) (keys : Keys) (s : State) (call : Call) (w : W) (out : List ℕ) (after : After W) →
+    {W : Type 0} {rule : W → Order → W} {keys : Keys} {w : W} {out : List ℕ} {after : After W} (s : State) (call : Call) →
     Did rule keys s call w out after → Advances rule keys s call w out after
-did_advances rule keys s call w out after d pit i e =
+did_advances {keys = keys} s call d pit i e =
     (d.0, step keys.table d.0 s call, ap (λ (t : Table). Some (step t d.0 s call)) e, d.1)
+
+-- a call by the case that the request was found to be
+pub entered :
+    {W : Type 0} {rule : W → Order → W} {keys : Keys} {w : W} {out : List ℕ} {after : After W} {q p : Request}
+    (s : State) (slots space : ℕ) → q ≡ p →
+    Did rule keys s (call_of p slots space) w out after → Advances rule keys s (call_of q slots space) w out after
+entered {rule = rule} {keys = keys} {w = w} {out = out} {after = after} {p = p} s slots space e d =
+    subst (λ (x : Request). Advances rule keys s (call_of x slots space) w out after) (sym e) (did_advances s (call_of p slots space) d)
 
 -- a request by the case that it was found to be
 pub entered_as :

@@ -22,7 +22,7 @@ use wire::statement::Statement;
 pub(crate) fn has_slots(len: usize, noted: usize) -> bool
     ensures { result ≡ (shelf_size len && len == noted) }
 {
-    len >= 8 && len <= 256 && len == noted
+    (8..=256).contains(&len) && len == noted
 }
 
 // Whether the tick is the view's first.
@@ -43,7 +43,7 @@ pub(crate) fn may_vote_on(marks: &Marks, view: u32, parent_view: u32) -> bool
 pub(crate) fn candidate_in(candidate: Option<[u8; 32]>, view: u32, before: u32) -> Option<[u8; 32]>
     ensures { result ≡ (if nat_eq view before then candidate else None) }
 {
-    if view == before { candidate } else { None }
+    candidate.filter(|_| view == before)
 }
 
 // The candidate after a proposal was taken up: its block, if that is of the console's view and there was none.

@@ -3,4 +3,4 @@ use Rattle.console.proofs.Doing.{does_only}
 use Rattle.console.proofs.console.Console.pass.Goals as goal
 
 pub returns : goal.returns
-returns g c = λ xs. ([], does_only _ _ _ _ _ _ _ _ _ refl refl)
+returns g c = λ xs. ([], does_only refl refl)

@@ -2,5 +2,5 @@ use Rattle.std.proofs.Common.{[], refl, rules}
 use Rattle.console.proofs.Doing.{does_only}
 use Rattle.console.proofs.console.Console.reopen.Goals as goal
 
-pub returns : goal.returns
-returns g c = record { did = ([], does_only _ _ _ _ _ _ _ _ _ refl (search rules)); same = refl }
+pub returns-clause-did : goal.returns-clause-did
+returns-clause-did g c = ([], does_only refl (search rules))
