@@ -2,8 +2,9 @@
 ghost use Rattle.std.specs.Prelude.{string_bytes, OnOk, IfErr};
 ghost use Rattle.shift.specs.Replies.{Answers, AnswersAny, Hinders, Replied, RepliedToAny};
 
+use crate::consoles;
+use crate::records::{MacLine, NameLine, ReadLine, write_try};
 use crate::stop::Stop;
-use crate::{consoles, records};
 use commands::command::Command as AnyCommand;
 use commands::lines::read_line as read_any_line;
 use pit::pit::Pit;
@@ -12,6 +13,7 @@ use script::command::Command;
 use script::fault::Fault;
 use script::lines::read_line;
 use std::alloc::{AllocError, Global};
+use telling::readings::Said;
 
 #[derive(Drop)]
 pub struct Clerk {
@@ -34,12 +36,16 @@ impl Clerk {
         ensures { OnOk result (Replied command (string_bytes text.old) (string_bytes text.new)) }
     {
         match command {
-            Command::Name { bytes } => records::write_name(text, bytes.as_slice()),
-            Command::Mac { key, bytes } => records::write_mac(text, &key, bytes.as_slice()),
-            Command::Read { n, bytes } => records::write_read(text, n, bytes.as_slice()),
-            Command::Try { board, orders } => {
-                records::write_try(text, heap, board, orders.as_slice())
+            Command::Name { bytes } => write!(text, "{}", NameLine(bytes.as_slice())),
+            Command::Mac { key, bytes } => {
+                let bytes = bytes.as_slice();
+                write!(text, "{}", MacLine { key: &key, bytes })
             }
+            Command::Read { n, bytes } => {
+                let datagram = bytes.as_slice();
+                write!(text, "{}", ReadLine(Said { n, datagram }))
+            }
+            Command::Try { board, orders } => write_try(text, heap, board, orders.as_slice()),
         }
     }
 

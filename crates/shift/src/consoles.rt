@@ -6,13 +6,13 @@ use console::request::{FullRequest, Request};
 use host::board::EitherBoard;
 use host::table::AssignmentTable;
 use pit::pit::Pit;
-use pit::replies::write_refused;
+use pit::replies::Refused;
 use pit::seat::Seat;
 use pit::trouble::Trouble;
 use rules::refusal::Refusal;
 use script::command::NewBoard;
 use std::alloc::{AllocError, Global};
-use telling::board_words::{write_assignment, write_tonnage};
+use telling::board_words::{Tonnes, TruckLines};
 use text::hex::Hex;
 use wire::order::Order;
 
@@ -36,12 +36,15 @@ pub fn pit(
     let n = match size(n) {
         Ok(n) => n,
         Err(refusal) => {
-            write_refused(text, &refusal)?;
-            writeln!(text, "")?;
+            writeln!(text, "{}", Refused(&refusal))?;
             return Ok(None);
         }
     };
-    let pit = Pit::new(heap, n, matches!(seals, SealKind::Keyed))?;
+    let keys = match seals {
+        SealKind::Keyed => Some([[0; 32]; 16]),
+        SealKind::Stamp => None,
+    };
+    let pit = Pit::new(heap, n, keys)?;
     writeln!(text, "{n} consoles, quorum {}", pit.quorum())?;
     Ok(Some(pit))
 }
@@ -151,8 +154,8 @@ pub fn board(pit: &Pit, text: &mut String, i: u8) -> Result<(), Trouble> {
     };
     write!(text, "board {i}: ")?;
     match seat.board() {
-        EitherBoard::Assignment(table) => write_assignment(text, table.lines())?,
-        EitherBoard::Tonnage(board) => write_tonnage(text, board)?,
+        EitherBoard::Assignment(table) => writeln!(text, "{}", TruckLines(table.lines()))?,
+        EitherBoard::Tonnage(board) => writeln!(text, "{}", Tonnes(board))?,
     }
-    Ok(writeln!(text, "")?)
+    Ok(())
 }

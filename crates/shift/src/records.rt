@@ -1,46 +1,68 @@
 // The lines that need no pit.
-ghost use Rattle.std.specs.Prelude.{◌≡◌, ◌++◌, string_bytes, OnOk};
+ghost use Rattle.std.specs.Prelude.{◌≡◌, Some};
+ghost use Rattle.telling.specs.Adds.{Adds};
 ghost use Rattle.shift.specs.Replies.{mac_line, name_line, read_line, try_line};
 
 use digest::{hmac_sha256, sha256};
 use script::command::NewBoard;
 use std::alloc::{AllocError, Global};
-use telling::readings::write_reading;
+use std::fmt;
+use telling::readings::Said;
 use telling::trial::write_trial;
 use text::hex::Hex;
 use wire::order::Order;
 
-pub fn write_name(text: &mut String, bytes: &[u8]) -> Result<(), AllocError>
-    ensures { OnOk result (string_bytes text.new ≡ string_bytes text.old ++ name_line bytes.now) }
-{
-    let name = sha256(bytes);
-    writeln!(text, "name: {}", Hex(&name))
+// The line of the name of these bytes.
+#[derive(Clone, Copy)]
+pub struct NameLine<'a>(pub &'a [u8]);
+
+impl fmt::Display for NameLine<'_> {
+    ghost output = { λ l. Some (name_line l.0.now) };
+
+    fn fmt<W: fmt::Write>(&self, f: &mut fmt::Formatter<W>) -> fmt::Result {
+        let name = sha256(self.0);
+        writeln!(f, "name: {}", Hex(&name))
+    }
 }
 
-pub fn write_mac(text: &mut String, key: &[u8; 32], bytes: &[u8]) -> Result<(), AllocError>
-    ensures { OnOk result (string_bytes text.new ≡ string_bytes text.old ++ mac_line key.now bytes.now) }
-{
-    let tag = hmac_sha256(key, bytes);
-    writeln!(text, "mac: {}", Hex(&tag[0..16]))
+// The line of the keyed seal of these bytes.
+#[derive(Clone, Copy)]
+pub struct MacLine<'a> {
+    pub key: &'a [u8; 32],
+    pub bytes: &'a [u8],
 }
 
-pub fn write_read(text: &mut String, n: u8, bytes: &[u8]) -> Result<(), AllocError>
-    ensures { OnOk result (string_bytes text.new ≡ string_bytes text.old ++ read_line n bytes.now) }
-{
-    write!(text, "read: ")?;
-    write_reading(text, n, bytes)?;
-    writeln!(text, "")
+impl fmt::Display for MacLine<'_> {
+    ghost output = { λ l. Some (mac_line l.key.now l.bytes.now) };
+
+    fn fmt<W: fmt::Write>(&self, f: &mut fmt::Formatter<W>) -> fmt::Result {
+        let tag = hmac_sha256(self.key, self.bytes);
+        writeln!(f, "mac: {}", Hex(&tag[0..16]))
+    }
 }
 
+// The line of what is said of a datagram.
+#[derive(Clone, Copy)]
+pub struct ReadLine<'a>(pub Said<'a>);
+
+impl fmt::Display for ReadLine<'_> {
+    ghost output = { λ l. Some (read_line l.0.n l.0.datagram.now) };
+
+    fn fmt<W: fmt::Write>(&self, f: &mut fmt::Formatter<W>) -> fmt::Result {
+        writeln!(f, "read: {}", self.0)
+    }
+}
+
+// Adds the line of what a new board makes of the orders.
 pub fn write_try(
     text: &mut String,
-    heap: Global,
+    alloc: Global,
     board: NewBoard,
     orders: &[Order],
 ) -> Result<(), AllocError>
-    ensures { OnOk result (string_bytes text.new ≡ string_bytes text.old ++ try_line board orders.now) }
+    ensures { Adds text.old result (try_line board orders.now) text.new }
 {
     write!(text, "try:")?;
-    write_trial(text, heap, board, orders)?;
+    write_trial(text, alloc, board, orders)?;
     writeln!(text, "")
 }
