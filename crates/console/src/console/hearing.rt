@@ -3,7 +3,6 @@ ghost use Rattle.std.specs.Result.{result_err};
 ghost use Rattle.rules.specs.Call.{hearing};
 ghost use Rattle.rules.specs.Hear.{count_vote, hear_proposal, hear_vote, proposal_ground, take_up};
 ghost use Rattle.wire.specs.Format.{body_key};
-ghost use Rattle.wire.specs.Parts.{message_of};
 ghost use Rattle.console.specs.Answered.{answered, handed_over, heard_answer, heard_handed};
 ghost use Rattle.console.specs.Does.{Did, Does};
 ghost use Rattle.console.specs.Seen.{seen};
@@ -22,17 +21,7 @@ use rules::block::Block;
 use rules::refusal::Refusal;
 use wire::key::Key;
 use wire::message::{Message, Proposal, Vote};
-use wire::reading::{Reading, read};
-
-// The message that was read.
-fn message_in(reading: &Reading) -> Message
-    ensures { result ≡ message_of reading.now }
-{
-    match reading {
-        Reading::Proposal { value, .. } => Message::Proposal(*value),
-        Reading::Vote { value, .. } => Message::Vote(*value),
-    }
-}
+use wire::reading::read;
 
 // A proposal with the key of its body, found once: it takes a digest.
 #[derive(Clone, Copy)]
@@ -139,7 +128,7 @@ impl<S: Seals, T: Store, B: Board> Console<S, T, B> {
             return Err(Refusal::ShelfSize);
         }
         let reading = read(self.permit.n, bytes)?;
-        match message_in(&reading) {
+        match Message::from(reading) {
             Message::Proposal(proposal) => self.hear_proposal(shelf, &proposal),
             Message::Vote(vote) => self.hear_vote(shelf, &vote),
         }
