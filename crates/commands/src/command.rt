@@ -1,5 +1,5 @@
 // What the lines of a sheet ask.
-use script::command::NewBoard;
+use script::command::{Command as PlainCommand, NewBoard};
 use wire::order::Order;
 
 // Which seals the consoles of a pit have.
@@ -12,23 +12,14 @@ pub enum SealKind {
 // What a line asks of the clerk.
 #[derive(Drop)]
 pub enum Command {
-    Name {
-        bytes: Vec<u8>,
-    },
-    Mac {
-        key: [u8; 32],
-        bytes: Vec<u8>,
-    },
-    // a message in a pit of n consoles
-    Read {
-        n: u8,
-        bytes: Vec<u8>,
-    },
-    // a new board, and the orders that it takes
-    Try {
-        board: NewBoard,
-        orders: Vec<Order>,
-    },
+    // what needs no pit
+    Plain(PlainCommand),
+    OfPit(PitCommand),
+}
+
+// What a line asks of a pit.
+#[derive(Drop)]
+pub enum PitCommand {
     // a pit of n consoles
     Pit {
         n: u32,

@@ -8,14 +8,11 @@ use script::lines::is_passed_over;
 use std::alloc::Global;
 
 // Reads a line; nothing is asked by one that is blank or a comment.
-pub fn read_line<'a>(heap: Global, line: &'a [u8]) -> Result<Option<Command>, Fault<'a>>
+pub fn read_line<'a>(alloc: Global, line: &'a [u8]) -> Result<Option<Command>, Fault<'a>>
     ensures { LineReads line.now result }
 {
     if is_passed_over(line) {
         return Ok(None);
     }
-    match parse(heap, line) {
-        Ok(command) => Ok(Some(command)),
-        Err(fault) => Err(fault),
-    }
+    Ok(Some(parse(alloc, line)?))
 }

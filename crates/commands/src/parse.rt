@@ -1,77 +1,105 @@
 // The reading of a line that is neither blank nor a comment: its first field says of what kind it is.
+ghost use Rattle.std.specs.Prelude.{◌≡◌};
 ghost use Rattle.text.specs.Splitting.{split};
-ghost use Rattle.script.specs.Arguments.{fields_of};
-ghost use Rattle.commands.specs.Commands.{Says, SaysOfPit, SaysOfConsole, Reads};
+ghost use Rattle.script.specs.Commands.{Reads};
+ghost use Rattle.commands.specs.Commands.{Says, SaysOfPit, SaysOfConsole, SaysMore, is_plain_word, is_console_word};
 
-use crate::command::Command;
+use crate::command::{Command, PitCommand};
 use crate::read::{
-    only_console, read_hear, read_key, read_mac, read_name, read_open, read_pit, read_propose,
-    read_read, read_shelf, read_tick, read_try,
+    only_console, read_hear, read_key, read_open, read_pit, read_propose, read_shelf, read_tick,
 };
+use script::command::parse_fields;
 use script::fault::Fault;
-use script::word::is_word;
 use std::alloc::Global;
 use text::fields::Fields;
 
 // A line that names a console and nothing more.
-fn console_line<'a>(word: &'a [u8], fields: Fields<'a>) -> Result<Command, Fault<'a>>
-    ensures { Reads (SaysOfConsole word.now (fields_of fields.entry)) result }
+fn console_line<'a>(word: &'a [u8], fields: Fields<'a>) -> Result<PitCommand, Fault<'a>>
+    ensures { Reads (SaysOfConsole word.now fields.entry) result }
 {
-    if is_word(word, b"pass") {
-        let turn = only_console(fields)?;
-        Ok(Command::Pass { turn })
-    } else if is_word(word, b"look") {
-        let console = only_console(fields)?;
-        Ok(Command::Look { console })
-    } else if is_word(word, b"store") {
-        let console = only_console(fields)?;
-        Ok(Command::Store { console })
-    } else if is_word(word, b"board") {
-        let console = only_console(fields)?;
-        Ok(Command::Board { console })
-    } else {
-        Err(Fault::UnknownWord(word))
+    match word {
+        b"pass" => Ok(PitCommand::Pass {
+            turn: only_console(fields)?,
+        }),
+        b"look" => Ok(PitCommand::Look {
+            console: only_console(fields)?,
+        }),
+        b"store" => Ok(PitCommand::Store {
+            console: only_console(fields)?,
+        }),
+        b"board" => Ok(PitCommand::Board {
+            console: only_console(fields)?,
+        }),
+        _ => Err(Fault::UnknownWord(word)),
+    }
+}
+
+// Whether a line of this word names a console and nothing more.
+fn is_of_console(word: &[u8]) -> bool
+    ensures { result ≡ is_console_word word.now }
+{
+    match word {
+        b"pass" => true,
+        b"look" => true,
+        b"store" => true,
+        b"board" => true,
+        _ => false,
+    }
+}
+
+// Any other line of a pit.
+fn longer_line<'a>(
+    alloc: Global,
+    word: &'a [u8],
+    fields: Fields<'a>,
+) -> Result<PitCommand, Fault<'a>>
+    ensures { Reads (SaysMore word.now fields.entry) result }
+{
+    match word {
+        b"pit" => read_pit(fields),
+        b"key" => read_key(alloc, fields),
+        b"open" => read_open(fields),
+        b"tick" => read_tick(fields),
+        b"propose" => read_propose(alloc, fields),
+        b"hear" => read_hear(alloc, fields),
+        b"shelf" => read_shelf(fields),
+        _ => Err(Fault::UnknownWord(word)),
     }
 }
 
 // A line of a pit.
-fn pit_line<'a>(heap: Global, word: &'a [u8], fields: Fields<'a>) -> Result<Command, Fault<'a>>
-    ensures { Reads (SaysOfPit word.now (fields_of fields.entry)) result }
+fn pit_line<'a>(alloc: Global, word: &'a [u8], fields: Fields<'a>) -> Result<PitCommand, Fault<'a>>
+    ensures { Reads (SaysOfPit word.now fields.entry) result }
 {
-    if is_word(word, b"pit") {
-        read_pit(fields)
-    } else if is_word(word, b"key") {
-        read_key(heap, fields)
-    } else if is_word(word, b"open") {
-        read_open(fields)
-    } else if is_word(word, b"tick") {
-        read_tick(fields)
-    } else if is_word(word, b"propose") {
-        read_propose(heap, fields)
-    } else if is_word(word, b"hear") {
-        read_hear(heap, fields)
-    } else if is_word(word, b"shelf") {
-        read_shelf(fields)
-    } else {
+    if is_of_console(word) {
         console_line(word, fields)
+    } else {
+        longer_line(alloc, word, fields)
+    }
+}
+
+// Whether a line of this word needs no pit.
+fn is_plain(word: &[u8]) -> bool
+    ensures { result ≡ is_plain_word word.now }
+{
+    match word {
+        b"name" => true,
+        b"mac" => true,
+        b"read" => true,
+        b"try" => true,
+        _ => false,
     }
 }
 
 // Any line.
-pub fn parse<'a>(heap: Global, line: &'a [u8]) -> Result<Command, Fault<'a>>
+pub fn parse<'a>(alloc: Global, line: &'a [u8]) -> Result<Command, Fault<'a>>
     ensures { Reads (Says (split line.now)) result }
 {
     let mut fields = Fields::of(line);
     let word = fields.next()?;
-    if is_word(word, b"name") {
-        read_name(heap, fields)
-    } else if is_word(word, b"mac") {
-        read_mac(heap, fields)
-    } else if is_word(word, b"read") {
-        read_read(heap, fields)
-    } else if is_word(word, b"try") {
-        read_try(heap, fields)
+    if is_plain(word) {
+        Ok(Command::Plain(parse_fields(alloc, word, fields)?))
     } else {
-        pit_line(heap, word, fields)
+        Ok(Command::OfPit(pit_line(alloc, word, fields)?))
     }
 }

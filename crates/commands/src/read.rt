@@ -1,115 +1,79 @@
 // The fields after the word of each kind of line.
-ghost use Rattle.std.specs.Prelude.{ℕ, MatchResult};
-ghost use Rattle.script.specs.Arguments.{Takes, fields_of};
-ghost use Rattle.script.specs.Faults.{Refutes};
-ghost use Rattle.commands.specs.Commands.{HasSeals, NameArguments, MacArguments, ReadArguments, TryArguments, PitArguments, KeyArguments, OpenArguments, TickArguments, ProposeArguments, HearArguments, ShelfArguments, OnlyConsole, Reads};
+ghost use Rattle.script.specs.Arguments.{Takes};
+ghost use Rattle.script.specs.Commands.{Reads};
+ghost use Rattle.commands.specs.Commands.{HasSeals, PitArguments, KeyArguments, OpenArguments, TickArguments, ProposeArguments, HearArguments, ShelfArguments, OnlyConsole};
 
-use crate::command::{Command, SealKind};
-use script::arguments::{byte, bytes, consoles, key, long, short_up_to};
+use crate::command::{PitCommand, SealKind};
+use script::arguments::{bytes, key, number};
 use script::command::new_board;
 use script::fault::Fault;
 use script::orders::orders;
-use script::word::is_word;
 use std::alloc::Global;
 use text::fields::Fields;
 
-pub(crate) fn read_name<'a>(heap: Global, mut fields: Fields<'a>) -> Result<Command, Fault<'a>>
-    ensures { Reads (NameArguments (fields_of fields.entry)) result }
-{
-    let bytes = bytes(heap, &mut fields)?;
-    fields.end()?;
-    Ok(Command::Name { bytes })
-}
-
-pub(crate) fn read_mac<'a>(heap: Global, mut fields: Fields<'a>) -> Result<Command, Fault<'a>>
-    ensures { Reads (MacArguments (fields_of fields.entry)) result }
-{
-    let key = key(heap, &mut fields)?;
-    let bytes = bytes(heap, &mut fields)?;
-    fields.end()?;
-    Ok(Command::Mac { key, bytes })
-}
-
-pub(crate) fn read_read<'a>(heap: Global, mut fields: Fields<'a>) -> Result<Command, Fault<'a>>
-    ensures { Reads (ReadArguments (fields_of fields.entry)) result }
-{
-    let n = consoles(&mut fields)?;
-    let bytes = bytes(heap, &mut fields)?;
-    fields.end()?;
-    Ok(Command::Read { n, bytes })
-}
-
-pub(crate) fn read_try<'a>(heap: Global, mut fields: Fields<'a>) -> Result<Command, Fault<'a>>
-    ensures { Reads (TryArguments (fields_of fields.entry)) result }
-{
-    let board = new_board(&mut fields)?;
-    let orders = orders(heap, fields)?;
-    Ok(Command::Try { board, orders })
-}
-
 // Takes the word for a kind of seals.
 fn seal_kind<'a>(fields: &mut Fields<'a>) -> Result<SealKind, Fault<'a>>
-    ensures { Takes HasSeals (fields_of fields.old) result (fields_of fields.new) }
+    ensures { Takes HasSeals fields.old result fields.new }
 {
-    let word = fields.next()?;
-    if is_word(word, b"stamp") {
-        Ok(SealKind::Stamp)
-    } else if is_word(word, b"keyed") {
-        Ok(SealKind::Keyed)
-    } else {
-        Err(Fault::UnknownWord(word))
+    match fields.next()? {
+        b"stamp" => Ok(SealKind::Stamp),
+        b"keyed" => Ok(SealKind::Keyed),
+        word => Err(Fault::UnknownWord(word)),
     }
 }
 
-pub(crate) fn read_pit<'a>(mut fields: Fields<'a>) -> Result<Command, Fault<'a>>
-    ensures { Reads (PitArguments (fields_of fields.entry)) result }
+pub(crate) fn read_pit<'a>(mut fields: Fields<'a>) -> Result<PitCommand, Fault<'a>>
+    ensures { Reads (PitArguments fields.entry) result }
 {
-    let n = long(&mut fields, u32::MAX)?;
+    let n = number(&mut fields, u32::MAX)?;
     let seals = seal_kind(&mut fields)?;
     fields.end()?;
-    Ok(Command::Pit { n, seals })
+    Ok(PitCommand::Pit { n, seals })
 }
 
-pub(crate) fn read_key<'a>(heap: Global, mut fields: Fields<'a>) -> Result<Command, Fault<'a>>
-    ensures { Reads (KeyArguments (fields_of fields.entry)) result }
+pub(crate) fn read_key<'a>(alloc: Global, mut fields: Fields<'a>) -> Result<PitCommand, Fault<'a>>
+    ensures { Reads (KeyArguments fields.entry) result }
 {
-    let console = byte(&mut fields, 15)?;
-    let key = key(heap, &mut fields)?;
+    let console = number::<u8>(&mut fields, 15)?;
+    let key = key(alloc, &mut fields)?;
     fields.end()?;
-    Ok(Command::Key { console, key })
+    Ok(PitCommand::Key { console, key })
 }
 
-pub(crate) fn read_open<'a>(mut fields: Fields<'a>) -> Result<Command, Fault<'a>>
-    ensures { Reads (OpenArguments (fields_of fields.entry)) result }
+pub(crate) fn read_open<'a>(mut fields: Fields<'a>) -> Result<PitCommand, Fault<'a>>
+    ensures { Reads (OpenArguments fields.entry) result }
 {
-    let console = byte(&mut fields, 255)?;
-    let slots = short_up_to(&mut fields, 300)?;
+    let console = number(&mut fields, u8::MAX)?;
+    let slots = number::<u16>(&mut fields, 300)?;
     let board = new_board(&mut fields)?;
     fields.end()?;
-    Ok(Command::Open {
+    Ok(PitCommand::Open {
         console,
         slots,
         board,
     })
 }
 
-pub(crate) fn read_tick<'a>(mut fields: Fields<'a>) -> Result<Command, Fault<'a>>
-    ensures { Reads (TickArguments (fields_of fields.entry)) result }
+pub(crate) fn read_tick<'a>(mut fields: Fields<'a>) -> Result<PitCommand, Fault<'a>>
+    ensures { Reads (TickArguments fields.entry) result }
 {
-    let console = byte(&mut fields, 255)?;
-    let t = long(&mut fields, u32::MAX)?;
+    let console = number(&mut fields, u8::MAX)?;
+    let t = number(&mut fields, u32::MAX)?;
     fields.end()?;
-    Ok(Command::Tick { console, t })
+    Ok(PitCommand::Tick { console, t })
 }
 
-pub(crate) fn read_propose<'a>(heap: Global, mut fields: Fields<'a>) -> Result<Command, Fault<'a>>
-    ensures { Reads (ProposeArguments (fields_of fields.entry)) result }
+pub(crate) fn read_propose<'a>(
+    alloc: Global,
+    mut fields: Fields<'a>,
+) -> Result<PitCommand, Fault<'a>>
+    ensures { Reads (ProposeArguments fields.entry) result }
 {
-    let console = byte(&mut fields, 255)?;
-    let turn = byte(&mut fields, 255)?;
-    let space = short_up_to(&mut fields, 1024)?;
-    let orders = orders(heap, fields)?;
-    Ok(Command::Propose {
+    let console = number(&mut fields, u8::MAX)?;
+    let turn = number(&mut fields, u8::MAX)?;
+    let space = number::<u16>(&mut fields, 1024)?;
+    let orders = orders(alloc, fields)?;
+    Ok(PitCommand::Propose {
         console,
         turn,
         space,
@@ -117,29 +81,29 @@ pub(crate) fn read_propose<'a>(heap: Global, mut fields: Fields<'a>) -> Result<C
     })
 }
 
-pub(crate) fn read_hear<'a>(heap: Global, mut fields: Fields<'a>) -> Result<Command, Fault<'a>>
-    ensures { Reads (HearArguments (fields_of fields.entry)) result }
+pub(crate) fn read_hear<'a>(alloc: Global, mut fields: Fields<'a>) -> Result<PitCommand, Fault<'a>>
+    ensures { Reads (HearArguments fields.entry) result }
 {
-    let console = byte(&mut fields, 255)?;
-    let bytes = bytes(heap, &mut fields)?;
+    let console = number(&mut fields, u8::MAX)?;
+    let bytes = bytes(alloc, &mut fields)?;
     fields.end()?;
-    Ok(Command::Hear { console, bytes })
+    Ok(PitCommand::Hear { console, bytes })
 }
 
-pub(crate) fn read_shelf<'a>(mut fields: Fields<'a>) -> Result<Command, Fault<'a>>
-    ensures { Reads (ShelfArguments (fields_of fields.entry)) result }
+pub(crate) fn read_shelf<'a>(mut fields: Fields<'a>) -> Result<PitCommand, Fault<'a>>
+    ensures { Reads (ShelfArguments fields.entry) result }
 {
-    let console = byte(&mut fields, 255)?;
-    let slots = short_up_to(&mut fields, 300)?;
+    let console = number(&mut fields, u8::MAX)?;
+    let slots = number::<u16>(&mut fields, 300)?;
     fields.end()?;
-    Ok(Command::Shelf { console, slots })
+    Ok(PitCommand::Shelf { console, slots })
 }
 
 // A line that names a console and nothing more.
 pub(crate) fn only_console<'a>(mut fields: Fields<'a>) -> Result<u8, Fault<'a>>
-    ensures { MatchResult result (OnlyConsole (fields_of fields.entry)) (λ e. Refutes e ((i : ℕ) × OnlyConsole (fields_of fields.entry) i)) }
+    ensures { Reads (OnlyConsole fields.entry) result }
 {
-    let i = byte(&mut fields, 255)?;
+    let i = number(&mut fields, u8::MAX)?;
     fields.end()?;
     Ok(i)
 }

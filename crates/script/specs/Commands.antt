@@ -39,5 +39,5 @@ Says (word ∷ fields) c =
     ⊥)))
 
 -- what reading answers: a command that is said, or a fault that rules every command out
-abbrev pub Reads : (Command → Type 0) → Result Command Fault → Type 0
-Reads Said r = MatchResult r Said (λ e. Refutes e ((c : Command) × Said c))
+abbrev pub Reads : {C : Type 0} → (C → Type 0) → Result C Fault → Type 0
+Reads {C} Said r = MatchResult r Said (λ e. Refutes e ((c : C) × Said c))

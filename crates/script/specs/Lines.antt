@@ -20,7 +20,10 @@ abbrev pub Comment : List ℕ → Type 0
 Comment line = (rest : List ℕ) × (line ≡ 35 ∷ rest)
 
 -- what reading a line answers: nothing just at those that are passed over, else a command that the line says, or a fault that rules every command out
+abbrev pub LineReadsAs : {C : Type 0} → (List (List ℕ) → C → Type 0) → List ℕ → Result (Option C) Fault → Type 0
+LineReadsAs Said line (Ok None) = Blank line ⊎ Comment line
+LineReadsAs Said line (Ok (Some c)) = ((Blank line ⊎ Comment line) → ⊥) × Said (split line) c
+LineReadsAs {C} Said line (Err e) = ((Blank line ⊎ Comment line) → ⊥) × Refutes e ((c : C) × Said (split line) c)
+
 abbrev pub LineReads : List ℕ → Result (Option Command) Fault → Type 0
-LineReads line (Ok None) = Blank line ⊎ Comment line
-LineReads line (Ok (Some c)) = ((Blank line ⊎ Comment line) → ⊥) × Says (split line) c
-LineReads line (Err e) = ((Blank line ⊎ Comment line) → ⊥) × Refutes e ((c : Command) × Says (split line) c)
+LineReads line r = LineReadsAs Says line r

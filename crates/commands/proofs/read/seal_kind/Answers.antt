@@ -1,9 +1,13 @@
-use Rattle.std.proofs.Common.{codes}
-use Rattle.commands.proofs.Words.{spelled}
+use Rattle.std.proofs.Common.{◌≡◌, codes, arith, rules}
+use Rattle.std.proofs.lemmas.Slice.Eq.{text_from_reads}
 use Rattle.commands.proofs.read.seal_kind.Goals as goal
 
-pub returns-then-is_word : goal.returns-then-is_word
-returns-then-is_word c = spelled _ (codes "stamp") c.in_ok-word.ensures.0 c.if-is_word.ensures
+pub returns-in-stamp : goal.returns-in-stamp
+returns-in-stamp c =
+    let word : c.in_ok-word.word.now ≡ codes "stamp" = text_from_reads _ (codes "stamp") (omega arith) (search rules) in
+    rw (c.in_ok-word.ensures.0, word)
 
-pub returns-then-is_word-2 : goal.returns-then-is_word-2
-returns-then-is_word-2 c = spelled _ (codes "keyed") c.in_ok-word.ensures.0 c.if-is_word-2.ensures
+pub returns-in-keyed : goal.returns-in-keyed
+returns-in-keyed c =
+    let word : c.in_ok-word.word.now ≡ codes "keyed" = text_from_reads _ (codes "keyed") (omega arith) (search rules) in
+    rw (c.in_ok-word.ensures.0, word)
