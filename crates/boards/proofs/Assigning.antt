@@ -12,7 +12,7 @@ use Rattle.wire.specs.declared.order.Order.TheVariants.{Send, Release, Load}
 use Rattle.wire.specs.Format.{well_formed}
 use Rattle.boards.specs.declared.assignment.line.Line.{Line}
 use Rattle.boards.specs.declared.assignment.line.Change.{Change}
-use Rattle.boards.specs.Trucks.{Roster, assigned, change, effective, free_line, line_of, or_else, or_nowhere, place_by, place_on, released, sent, truck_of, trucks_at, whereabouts, writing, written}
+use Rattle.boards.specs.Trucks.{Roster, assigned, change, effective, free_line, line_of, or_else, or_nowhere, found_place, line_place, released, sent, truck_of, trucks_at, whereabouts, writing, written}
 use Rattle.boards.specs.TruckLaws.{AssignmentTells, OneLineAtMost, LimitHolds, SentWithin, OneEach, OneEachStays, Arrives, Leaves}
 use Rattle.boards.proofs.Counting.{one_at, one_at_most, trucks_set_most}
 
@@ -147,8 +147,8 @@ other_before w (Send truck place) c e =
           ⊎_elim
           (λ own.
           s.moves
-          (ap (λ (o : Option ℕ). or_nowhere (place_by o w.lines)) own ∙
-          (ap (λ (l : Option Line). or_nowhere (place_on l)) same ∙ ap (λ (l : Option Line). or_nowhere (place_on l)) s.line)))
+          (ap (λ (o : Option ℕ). or_nowhere (found_place o w.lines)) own ∙
+          (ap (λ (l : Option Line). or_nowhere (line_place l)) same ∙ ap (λ (l : Option Line). or_nowhere (line_place l)) s.line)))
           (λ new.
           some_not_none truck
           (sym (ap (λ (l : Option Line). shown truck_of l) s.line) ∙
@@ -286,7 +286,7 @@ arrives w truck place e =
           s.seated.before j l (sym (ap (λ (x : Option Line). shown truck_of x) (get_or-set_other w.lines c.at j c.line None n)) ∙ h),
     ) in
     ap (λ (x : List (Option Line)). whereabouts truck x) (assigned_some w (Send truck place) c f.1) ∙
-    (ap (λ (o : Option ℕ). or_nowhere (place_by o ls)) first ∙ ap (λ (l : Option Line). or_nowhere (place_on l)) here)
+    (ap (λ (o : Option ℕ). or_nowhere (found_place o ls)) first ∙ ap (λ (l : Option Line). or_nowhere (line_place l)) here)
 
 pub leaves : Leaves
 leaves w truck each e =

@@ -34,17 +34,17 @@ abbrev pub seat : ℕ → List (Option Line) → Option ℕ
 seat truck lines = or_else (line_of truck lines) (free_line lines)
 
 -- the place on a line, unless it is free
-abbrev pub place_on : Option Line → Option ℕ
-place_on None = None
-place_on (Some l) = Some l.place
+abbrev pub line_place : Option Line → Option ℕ
+line_place None = None
+line_place (Some l) = Some l.place
 
 -- where a truck is, if it has a line
-abbrev pub place_by : Option ℕ → List (Option Line) → Option ℕ
-place_by None lines = None
-place_by (Some i) lines = place_on (slice_index_or lines i None)
+abbrev pub found_place : Option ℕ → List (Option Line) → Option ℕ
+found_place None lines = None
+found_place (Some i) lines = line_place (slice_index_or lines i None)
 
 abbrev pub place_of : ℕ → List (Option Line) → Option ℕ
-place_of truck lines = place_by (line_of truck lines) lines
+place_of truck lines = found_place (line_of truck lines) lines
 
 -- where a truck is; 0, which is no place, if it has no line
 abbrev pub or_nowhere : Option ℕ → ℕ

@@ -22,7 +22,7 @@ pub struct Proposed {
 }
 
 // What hear answers.
-// Stays: `New` and `Known` are the rules' words, (d): `Some(3)` and `None` would not say which is which.
+// Stays: `New` and `Known` are the rules' words: `Some(3)` and `None` would not say which is which.
 #[derive(Clone, Copy)]
 pub enum Heard {
     // a new proposal or vote; so many blocks were handed over

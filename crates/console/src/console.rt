@@ -9,7 +9,7 @@ pub mod proposing;
 pub mod ticking;
 
 // A console. The shelf of blocks stays with the host, who lends it to each call.
-// Stays: `same` in each contract over `&mut self`, (d): it relates the seals before and after, which no invariant can say.
+// Stays: `same` in each contract over `&mut self`: it relates the seals before and after, which no invariant can say.
 #[derive(Drop)]
 pub struct Console<S, T, B> {
     seals: S,

@@ -14,7 +14,7 @@ pub enum FieldError {
 }
 
 // What is left of a line; nothing once its last field is taken. Contracts see the fields that are left.
-#[derive(Drop)]
+#[derive(Clone, Drop)]
 pub struct Fields<'a> {
     rest: Option<&'a [u8]>,
 }

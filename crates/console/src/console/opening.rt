@@ -77,7 +77,7 @@ impl<S: Seals, T: Store, B: Board> Console<S, T, B> {
         ensures store { result.1 ≡ self.store }
         ensures board { result.2 ≡ self.board }
     {
-        // Stays: each field is named, (a): the parts need not be `Drop`, so that nothing of a console may be let go by `..`.
+        // Stays: each field is named: the parts need not be `Drop`, so that nothing of a console may be let go by `..`.
         let Console {
             seals,
             store,
