@@ -95,8 +95,3 @@ pub entered_as :
     Advances rule (keys_from keys q seals) s (full_call_of q slots space) (world_from world q board) out after
 entered_as {S} {B} rule keys world seals board s slots space out after q p e a =
     subst (λ (x : FullRequest S B). Advances rule (keys_from keys x seals) s (full_call_of x slots space) (world_from world x board) out after) (sym e) a
-
-pub keys_as :
-    {S B : Type 0} (keys : S → Keys) (seals : S) (k : Keys) (q p : FullRequest S B) →
-    q ≡ p → k ≡ keys_from keys p seals → k ≡ keys_from keys q seals
-keys_as {S} {B} keys seals k q p e a = subst (λ (x : FullRequest S B). k ≡ keys_from keys x seals) (sym e) a

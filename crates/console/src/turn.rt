@@ -16,6 +16,7 @@ impl Turn {
 
     // Spends the turn and does nothing else.
     pub fn pass(self) {
+        // Stays: each field by its name: `..` would need a turn that may be let go.
         let Turn {
             console: _,
             view: _,

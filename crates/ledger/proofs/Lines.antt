@@ -1,9 +1,10 @@
 -- Lines of held parents: views fall along them, so that any number of steps above the view will do.
-use Rattle.std.proofs.Common.{◌≡◌, ℕ, zero, suc, ◌+◌, ◌<◌, ◌≤◌, Bool, true, false, cond, ◌||◌, ltb, List, [], ◌∷◌, ◌++◌, length, Some, None, sym, refl, ap, ◌∙◌, arith}
+use Rattle.std.proofs.Common.{◌≡◌, ℕ, zero, suc, ◌+◌, ◌<◌, ◌≤◌, Bool, true, false, cond, ◌||◌, ltb, List, [], ◌∷◌, ◌++◌, length, Some, None, sym, refl, ap, ◌∙◌, ⊎_elim, arith}
 use Rattle.std.proofs.lemmas.List.{append-nil, append_assoc, length_push}
-use Rattle.std.proofs.lemmas.Bool.{cond_both, ltb-true}
+use Rattle.std.proofs.lemmas.Bool.{cases_Bool, cond-false, cond_both, ltb-true}
 use Rattle.parts.specs.Fed.{fed}
 use Rattle.rules.specs.Blocks.{Slot, held}
+use Rattle.rules.specs.Options.{absent}
 use Rattle.rules.specs.Settle.{parent_of, reaches_within, reaches, line_within, line}
 use Rattle.rules.specs.declared.block.Block.{Block}
 use Rattle.rules.specs.Shelves.{held_on}
@@ -148,6 +149,23 @@ fed_last rule w after end bs all b os l o e f =
     let q = orders_one b in
     cc
 
+-- the block before b on its line, if b is not the first after the head
+abbrev pub before : List Slot → Key → Block → Slot
+before xs head b = cond (same_key b.body.parent head) None (parent_of xs b)
+
+went_on : (s : Bool) (x : Slot) (p : Block) → Some p ≡ cond s None x → (s ≡ false) × (x ≡ Some p)
+went_on true x p e = absent p (sym e)
+went_on false x p e = (refl, sym e)
+
+pub before_below : (xs : List Slot) (head : Key) (b p : Block) → Some p ≡ before xs head b → p.body.view < b.body.view
+before_below xs head b p e = parent_below xs b p (went_on (same_key b.body.parent head) (parent_of xs b) p e).1
+
+line_first : (xs : List Slot) (head : Key) (b : Block) → ◌≡◌ {A = Slot} None (before xs head b) → line xs head b ≡ b.body ∷ []
+line_first xs head b e =
+    ⊎_elim (line_here xs head b)
+    (λ f. line_end xs head b f (sym (e ∙ cond-false (same_key b.body.parent head) None (parent_of xs b) f)))
+    (cases_Bool (same_key b.body.parent head))
+
 -- r blocks were handed over up to b, which led the board from w to `end`
 pub record Hands {W : Type 0} (rule : W → Order → W) (xs : List Slot) (head : Key) (b : Block) (w end : W) (r : ℕ) : Type 0 where
   pub number : r ≡ length (line xs head b)
@@ -156,11 +174,12 @@ pub record Hands {W : Type 0} (rule : W → Order → W) (xs : List Slot) (head 
 
 pub hands_on :
     {W : Type 0} (rule : W → Order → W) (xs : List Slot) (head : Key) (b p : Block) (w mid end : W) (older : ℕ) (os : List Order) →
-    same_key b.body.parent head ≡ false → parent_of xs b ≡ Some p → Hands rule xs head p w mid older →
+    Some p ≡ before xs head b → Hands rule xs head p w mid older →
     os ≡ orders_of b.body.orders → end ≡ fed rule mid os → Hands rule xs head b w end (older + 1)
-hands_on rule xs head b p w mid end older os ne pe h o e =
-    let l = line_on xs head b p ne pe in
-    let v = parent_below xs b p pe in
+hands_on rule xs head b p w mid end older os g h o e =
+    let s = went_on (same_key b.body.parent head) (parent_of xs b) p g in
+    let l = line_on xs head b p s.0 s.1 in
+    let v = parent_below xs b p s.1 in
     let n = h.number in
     let f = h.fits in
     record {
@@ -171,8 +190,9 @@ hands_on rule xs head b p w mid end older os ne pe h o e =
 
 pub hands_first :
     {W : Type 0} (rule : W → Order → W) (xs : List Slot) (head : Key) (b : Block) (w end : W) (os : List Order) →
-    line xs head b ≡ b.body ∷ [] → os ≡ orders_of b.body.orders → end ≡ fed rule w os → Hands rule xs head b w end 1
-hands_first rule xs head b w end os l o e =
+    ◌≡◌ {A = Slot} None (before xs head b) → os ≡ orders_of b.body.orders → end ≡ fed rule w os → Hands rule xs head b w end 1
+hands_first rule xs head b w end os g o e =
+    let l = line_first xs head b g in
     record {
       number = sym (ap length l);
       fits = omega arith;

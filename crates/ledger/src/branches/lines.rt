@@ -1,8 +1,9 @@
-ghost use Rattle.std.specs.Prelude.{◌≡◌, ◌+◌, ◌<◌, ◌≤◌, length};
+ghost use Rattle.std.specs.Prelude.{◌≡◌, ◌+◌, ◌<◌, ◌≤◌, length, if◌then◌else◌, None};
 ghost use Rattle.std.specs.Option.{option_map};
 ghost use Rattle.parts.specs.Fed.{fed};
 ghost use Rattle.rules.specs.Settle.{line, parent_of, reaches};
 ghost use Rattle.sheets.specs.Sheet.{all_orders};
+ghost use Rattle.wire.specs.Format.{same_key};
 
 use crate::branches::Branches;
 use crate::slot::find;
@@ -35,6 +36,17 @@ impl<'a> Branches<'a> {
         true
     }
 
+    // The held block before this one on its line; the first after the head has none.
+    fn before(&self, block: &Block) -> Option<&'a Block>
+        ensures { option_map (λ x. x.now) result ≡ (if same_key block.now.body.parent self.now.head then None else parent_of self.now.shelf.now block.now) }
+    {
+        if block.body.parent == self.head {
+            None
+        } else {
+            self.parent(block)
+        }
+    }
+
     // Gives the board the orders of the blocks after the head up to this one, the oldest first, and answers how many
     // blocks these are. Views fall along the line, so that it is no deeper than the shelf has slots.
     pub(crate) fn hand_over<B: Board>(&self, block: &Block, board: &mut B) -> usize
@@ -43,12 +55,10 @@ impl<'a> Branches<'a> {
         ensures fits { result ≤ block.now.body.view + 1 }
         ensures after { B.Board.world board.new ≡ fed B.Board.rule (B.Board.world board.old) (all_orders (line self.now.shelf.now self.now.head block.now)) }
     {
-        let mut older = 0;
-        if block.body.parent != self.head {
-            if let Some(before) = self.parent(block) {
-                older = self.hand_over(before, board);
-            }
-        }
+        let older = match self.before(block) {
+            Some(before) => self.hand_over(before, board),
+            None => 0,
+        };
         take_all(board, block.body.orders.as_slice());
         older + 1
     }
