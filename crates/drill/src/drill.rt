@@ -59,6 +59,33 @@ fn tell_others(cabs: &mut [Cab], counts: &mut Counts, from: usize, bytes: &[u8])
     }
 }
 
+// Ticks one console; its vote is kept, and its turn answered.
+fn tick(
+    cab: &mut Cab,
+    votes: &mut Vec<[u8; Vote::LENGTH]>,
+    counts: &mut Counts,
+    t: u32,
+) -> Result<Option<Turn>, AllocError> {
+    match cab.tick(t) {
+        Ok(Ticked::Turn(turn)) => {
+            counts.add_call(0);
+            Ok(Some(turn))
+        }
+        Ok(Ticked::Vote(vote, handed)) => {
+            counts.add_call(handed);
+            let mut bytes = [0; Vote::LENGTH];
+            let _ = vote.write(&mut bytes);
+            votes.push(vote.vote().bytes())?;
+            Ok(None)
+        }
+        Ok(Ticked::Nothing) => {
+            counts.add_call(0);
+            Ok(None)
+        }
+        Err(_) => Ok(None),
+    }
+}
+
 impl Drill {
     // A pit of n consoles, all open; an empty one if there is no pit of that size.
     pub fn new(alloc: Global, n: u8) -> Result<Drill, AllocError> {
@@ -85,29 +112,6 @@ impl Drill {
         self.cabs.first().map_or(0, |cab| cab.count())
     }
 
-    // Ticks one console; its vote is kept, and its turn answered.
-    fn tick(&mut self, i: usize, t: u32) -> Result<Option<Turn>, AllocError> {
-        let Some(cab) = self.cabs.get_mut(i) else {
-            return Ok(None);
-        };
-        match cab.tick(t) {
-            Ok(Ticked::Turn(turn)) => {
-                self.counts.add_call(0);
-                Ok(Some(turn))
-            }
-            Ok(Ticked::Vote(vote, handed)) => {
-                self.counts.add_call(handed);
-                self.votes.push(vote.vote().bytes())?;
-                Ok(None)
-            }
-            Ok(Ticked::Nothing) => {
-                self.counts.add_call(0);
-                Ok(None)
-            }
-            Err(_) => Ok(None),
-        }
-    }
-
     // Spends a turn on eight loads, which all others hear.
     fn propose(&mut self, i: usize, turn: Turn) {
         let Some(cab) = self.cabs.get_mut(i) else {
@@ -127,8 +131,8 @@ impl Drill {
     // Every console ticks for the view; its leader's turn is answered with the leader's number.
     fn tick_all(&mut self, t: u32) -> Result<Option<(usize, Turn)>, AllocError> {
         let mut held = None;
-        for i in 0..self.cabs.len() {
-            match self.tick(i, t) {
+        for (i, cab) in self.cabs.iter_mut().enumerate() {
+            match tick(cab, &mut self.votes, &mut self.counts, t) {
                 Ok(Some(turn)) => {
                     if let Some((_, old)) = held.replace((i, turn)) {
                         old.pass();

@@ -17,6 +17,7 @@ use wire::orders::Orders;
 use wire::statement::{Purpose, Statement};
 
 // A console of a pit of four, with its shelf.
+// Stays: not one type with the drill's cab: other seals, and an array for a shelf, so that opening it needs no memory.
 #[derive(Drop)]
 struct Listener {
     console: Console<OpenStamp, HeldNumbers, Tonnage>,
