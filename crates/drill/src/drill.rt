@@ -73,8 +73,6 @@ fn tick(
         }
         Ok(Ticked::Vote(vote, handed)) => {
             counts.add_call(handed);
-            let mut bytes = [0; Vote::LENGTH];
-            let _ = vote.write(&mut bytes);
             votes.push(vote.vote().bytes())?;
             Ok(None)
         }

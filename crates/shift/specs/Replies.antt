@@ -1,5 +1,5 @@
 -- What the clerk answers.
-use Rattle.std.specs.Prelude.{◌≡◌, ℕ, ◌⊎◌, List, [], ◌∷◌, ◌++◌, take, Some, None, Ok, Err, vec_items, string_bytes, codes, Option, Result, String, ◌≢◌}
+use Rattle.std.specs.Prelude.{◌≡◌, ℕ, ◌⊎◌, List, [], ◌∷◌, ◌++◌, take, Some, None, Ok, Err, vec_items, string_bytes, codes, Option, Result, String}
 use Rattle.std.specs.declared.alloc.Global.{Global}
 use Rattle.digest.specs.Sha256.{digest}
 use Rattle.digest.specs.Hmac.{hmac}
@@ -18,8 +18,6 @@ use Rattle.script.specs.declared.command.NewBoard.{NewBoard}
 use Rattle.wire.specs.declared.order.Order.{Order}
 use Rattle.shift.specs.declared.stop.Stop.{Stop}
 use Rattle.shift.specs.declared.stop.Stop.TheVariants as stop
-use Rattle.pit.specs.declared.trouble.Trouble.{Trouble}
-use Rattle.pit.specs.declared.trouble.Trouble.TheVariants.{NoMemory}
 use Rattle.telling.specs.Messages.{reading_told}
 use Rattle.telling.specs.Tries.{trial_told}
 
@@ -54,43 +52,13 @@ Answers line (Err e) = Refutes e ((c : Command) × Says (split line) c)
 
 -- what any command adds to a text: nothing is said here of the answers of a pit
 abbrev pub RepliedToAny : AnyCommand → List ℕ → List ℕ → Type 0
-RepliedToAny (any.Name bytes) before after = Replied (Name bytes) before after
-RepliedToAny (any.Mac key bytes) before after = Replied (Mac key bytes) before after
-RepliedToAny (any.Read n bytes) before after = Replied (Read n bytes) before after
-RepliedToAny (any.Try board orders) before after = Replied (Try board orders) before after
-RepliedToAny (any.Pit n seals) before after = Unit {0}
-RepliedToAny (any.Key console key) before after = Unit {0}
-RepliedToAny (any.Open console slots board) before after = Unit {0}
-RepliedToAny (any.Tick console t) before after = Unit {0}
-RepliedToAny (any.Propose console turn space orders) before after = Unit {0}
-RepliedToAny (any.Pass turn) before after = Unit {0}
-RepliedToAny (any.Hear console bytes) before after = Unit {0}
-RepliedToAny (any.Shelf console slots) before after = Unit {0}
-RepliedToAny (any.Look console) before after = Unit {0}
-RepliedToAny (any.Store console) before after = Unit {0}
-RepliedToAny (any.Board console) before after = Unit {0}
+RepliedToAny (any.Plain c) before after = Replied c before after
+RepliedToAny (any.OfPit c) before after = Unit {0}
 
 -- the command is one that needs a pit, or makes one
 abbrev pub OfPit : AnyCommand → Type 0
-OfPit (any.Name bytes) = ⊥
-OfPit (any.Mac key bytes) = ⊥
-OfPit (any.Read n bytes) = ⊥
-OfPit (any.Try board orders) = ⊥
-OfPit (any.Pit n seals) = Unit {0}
-OfPit (any.Key console key) = Unit {0}
-OfPit (any.Open console slots board) = Unit {0}
-OfPit (any.Tick console t) = Unit {0}
-OfPit (any.Propose console turn space orders) = Unit {0}
-OfPit (any.Pass turn) = Unit {0}
-OfPit (any.Hear console bytes) = Unit {0}
-OfPit (any.Shelf console slots) = Unit {0}
-OfPit (any.Look console) = Unit {0}
-OfPit (any.Store console) = Unit {0}
-OfPit (any.Board console) = Unit {0}
-
--- what can keep a command from its answer: want of memory, and the pit at a command of a pit
-abbrev pub Hinders : Trouble → AnyCommand → Type 0
-Hinders trouble c = (trouble ≢ NoMemory) → OfPit c
+OfPit (any.Plain c) = ⊥
+OfPit (any.OfPit c) = Unit {0}
 
 -- what playing any line answers: nothing where it is passed over, else the reply to the command that it says, as a line; and where
 -- it answers neither, memory failed, or the line says no command, or it says one of a pit

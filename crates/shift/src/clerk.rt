@@ -1,11 +1,11 @@
 // The clerk of a pit: it keeps what the lines before have left, and answers one line at a time.
-ghost use Rattle.std.specs.Prelude.{string_bytes, OnOk, IfErr};
-ghost use Rattle.shift.specs.Replies.{Answers, AnswersAny, Hinders, Replied, RepliedToAny};
+ghost use Rattle.std.specs.Prelude.{string_bytes, OnOk};
+ghost use Rattle.shift.specs.Replies.{Answers, AnswersAny, Replied};
 
 use crate::consoles;
 use crate::records::{MacLine, NameLine, ReadLine, write_try};
 use crate::stop::Stop;
-use commands::command::Command as AnyCommand;
+use commands::command::{Command as AnyCommand, PitCommand};
 use commands::lines::read_line as read_any_line;
 use pit::pit::Pit;
 use pit::trouble::Trouble;
@@ -21,128 +21,114 @@ pub struct Clerk {
     pit: Option<Pit>,
 }
 
+// Adds the answer to a command that needs no pit, a line, to the text.
+fn answer(alloc: Global, command: Command, text: &mut String) -> Result<(), AllocError>
+    ensures { OnOk result (Replied command (string_bytes text.old) (string_bytes text.new)) }
+{
+    match command {
+        Command::Name { bytes } => write!(text, "{}", NameLine(bytes.as_slice())),
+        Command::Mac { key, bytes } => {
+            let bytes = bytes.as_slice();
+            write!(text, "{}", MacLine { key: &key, bytes })
+        }
+        Command::Read { n, bytes } => {
+            let datagram = bytes.as_slice();
+            write!(text, "{}", ReadLine(Said { n, datagram }))
+        }
+        Command::Try { board, orders } => write_try(text, alloc, board, orders.as_slice()),
+    }
+}
+
 impl Clerk {
     pub fn new() -> Clerk {
         Clerk { pit: None }
     }
 
-    // Adds the answer to a command that needs no pit, a line, to the text.
-    fn answer(
-        &mut self,
-        heap: Global,
-        command: Command,
-        text: &mut String,
-    ) -> Result<(), AllocError>
-        ensures { OnOk result (Replied command (string_bytes text.old) (string_bytes text.new)) }
-    {
-        match command {
-            Command::Name { bytes } => write!(text, "{}", NameLine(bytes.as_slice())),
-            Command::Mac { key, bytes } => {
-                let bytes = bytes.as_slice();
-                write!(text, "{}", MacLine { key: &key, bytes })
-            }
-            Command::Read { n, bytes } => {
-                let datagram = bytes.as_slice();
-                write!(text, "{}", ReadLine(Said { n, datagram }))
-            }
-            Command::Try { board, orders } => write_try(text, heap, board, orders.as_slice()),
-        }
-    }
-
     // The answer to a line that needs no pit, without its newline, or nothing where the line asks for nothing.
-    pub fn play<'a>(&mut self, heap: Global, line: &'a [u8]) -> Result<Option<String>, Fault<'a>>
+    pub fn play<'a>(&mut self, alloc: Global, line: &'a [u8]) -> Result<Option<String>, Fault<'a>>
         ensures { Answers line.now result }
     {
-        let Some(command) = read_line(heap, line)? else {
+        let Some(command) = read_line(alloc, line)? else {
             return Ok(None);
         };
-        let mut text = String::new(heap);
-        match self.answer(heap, command, &mut text) {
-            Ok(()) => Ok(Some(text)),
-            Err(_) => Err(Fault::NoMemory),
-        }
+        let mut text = String::new(alloc);
+        answer(alloc, command, &mut text)?;
+        Ok(Some(text))
     }
 
-    // Adds the answer to any command, a line, to the text.
-    fn answer_any(
-        &mut self,
-        heap: Global,
-        command: AnyCommand,
-        text: &mut String,
-    ) -> Result<(), Trouble>
-        ensures reply { OnOk result (RepliedToAny command (string_bytes text.old) (string_bytes text.new)) }
-        ensures trouble { IfErr result (λ e. Hinders e command) }
-    {
-        match command {
-            AnyCommand::Name { bytes } => Ok(self.answer(heap, Command::Name { bytes }, text)?),
-            AnyCommand::Mac { key, bytes } => {
-                Ok(self.answer(heap, Command::Mac { key, bytes }, text)?)
-            }
-            AnyCommand::Read { n, bytes } => {
-                Ok(self.answer(heap, Command::Read { n, bytes }, text)?)
-            }
-            AnyCommand::Try { board, orders } => {
-                Ok(self.answer(heap, Command::Try { board, orders }, text)?)
-            }
-            AnyCommand::Pit { n, seals } => {
-                self.pit = None;
-                self.pit = consoles::pit(text, heap, n, seals)?;
-                Ok(())
-            }
-            command => self.answer_in_pit(heap, command, text),
-        }
+    // The pit that stands.
+    fn standing(&mut self) -> Result<&mut Pit, Trouble> {
+        self.pit.as_mut().ok_or(Trouble::NoPit)
     }
 
-    // Adds the answer to a command that needs a pit.
+    // Adds the answer to a command of a pit.
     fn answer_in_pit(
         &mut self,
-        heap: Global,
-        command: AnyCommand,
+        alloc: Global,
+        command: PitCommand,
         text: &mut String,
     ) -> Result<(), Trouble> {
-        let Some(pit) = &mut self.pit else {
-            return Err(Trouble::NoPit);
-        };
         match command {
-            AnyCommand::Key { console, key } => consoles::key(pit, text, console, key),
-            AnyCommand::Open {
+            PitCommand::Pit { n, seals } => {
+                self.pit = None;
+                self.pit = consoles::pit(text, alloc, n, seals)?;
+                Ok(())
+            }
+            PitCommand::Key { console, key } => {
+                consoles::key(self.standing()?, text, console, key)
+            }
+            PitCommand::Open {
                 console,
                 slots,
                 board,
-            } => consoles::open(pit, text, heap, console, slots, board),
-            AnyCommand::Tick { console, t } => consoles::tick(pit, text, console, t),
-            AnyCommand::Propose {
+            } => { consoles::open(self.standing()?, text, alloc, console, slots, board) }
+            PitCommand::Tick { console, t } => consoles::tick(self.standing()?, text, console, t),
+            PitCommand::Propose {
                 console,
                 turn,
                 space,
                 orders,
-            } => consoles::propose(pit, text, heap, (console, turn), space, orders.as_slice()),
-            AnyCommand::Pass { turn } => consoles::pass(pit, text, turn),
-            AnyCommand::Hear { console, bytes } => {
-                consoles::hear(pit, text, console, bytes.as_slice())
+            } => {
+                let consoles = (console, turn);
+                consoles::propose(
+                    self.standing()?,
+                    text,
+                    alloc,
+                    consoles,
+                    space,
+                    orders.as_slice(),
+                )
             }
-            AnyCommand::Shelf { console, slots } => consoles::shelf(
-                pit, text, heap, console, slots,
-            ),
-            AnyCommand::Look { console } => consoles::look(pit, text, console),
-            AnyCommand::Store { console } => consoles::store(pit, text, console),
-            AnyCommand::Board { console } => consoles::board(pit, text, console),
-            _ => Ok(()),
+            PitCommand::Pass { turn } => consoles::pass(self.standing()?, text, turn),
+            PitCommand::Hear { console, bytes } => {
+                consoles::hear(self.standing()?, text, console, bytes.as_slice())
+            }
+            PitCommand::Shelf { console, slots } => {
+                consoles::shelf(self.standing()?, text, alloc, console, slots)
+            }
+            PitCommand::Look { console } => consoles::look(self.standing()?, text, console),
+            PitCommand::Store { console } => consoles::store(self.standing()?, text, console),
+            PitCommand::Board { console } => consoles::board(self.standing()?, text, console),
         }
     }
 
     // The answer to any line without its newline, or nothing where the line asks for nothing.
-    pub fn play_any<'a>(&mut self, heap: Global, line: &'a [u8]) -> Result<Option<String>, Stop<'a>>
+    pub fn play_any<'a>(
+        &mut self,
+        alloc: Global,
+        line: &'a [u8],
+    ) -> Result<Option<String>, Stop<'a>>
         ensures { AnswersAny line.now result }
     {
-        let Some(command) = read_any_line(heap, line)? else {
-            return Ok(None);
-        };
-        let mut text = String::new(heap);
-        match self.answer_any(heap, command, &mut text) {
-            Ok(()) => Ok(Some(text)),
-            Err(Trouble::NoMemory) => Err(Stop::Line(Fault::NoMemory)),
-            Err(trouble) => Err(Stop::Pit(trouble)),
+        match read_any_line(alloc, line)? {
+            None => Ok(None),
+            // `play` reads the line again: it is the one that answers it
+            Some(AnyCommand::Plain(_)) => Ok(self.play(alloc, line)?),
+            Some(AnyCommand::OfPit(command)) => {
+                let mut text = String::new(alloc);
+                self.answer_in_pit(alloc, command, &mut text)?;
+                Ok(Some(text))
+            }
         }
     }
 }

@@ -4,7 +4,7 @@ use commands::command::SealKind;
 use console::permit::granting::permit;
 use console::request::{FullRequest, Request};
 use host::board::EitherBoard;
-use host::table::AssignmentTable;
+use host::table::assignment_table;
 use pit::pit::Pit;
 use pit::replies::Refused;
 use pit::seat::Seat;
@@ -18,9 +18,7 @@ use wire::order::Order;
 
 // The size of a pit, unless there is none of that size.
 fn size(n: u32) -> Result<u8, Refusal> {
-    let Ok(n) = u8::try_from(n) else {
-        return Err(Refusal::PitSize);
-    };
+    let n = u8::try_from(n).map_err(|_| Refusal::PitSize)?;
     permit(n, 0)?;
     Ok(n)
 }
@@ -28,7 +26,7 @@ fn size(n: u32) -> Result<u8, Refusal> {
 // A new pit, unless it is refused.
 pub fn pit(
     text: &mut String,
-    heap: Global,
+    alloc: Global,
     n: u32,
     seals: SealKind,
 ) -> Result<Option<Pit>, Trouble> {
@@ -44,7 +42,7 @@ pub fn pit(
         SealKind::Keyed => Some([[0; 32]; 16]),
         SealKind::Stamp => None,
     };
-    let pit = Pit::new(heap, n, keys)?;
+    let pit = Pit::new(alloc, n, keys)?;
     writeln!(text, "{n} consoles, quorum {}", pit.quorum())?;
     Ok(Some(pit))
 }
@@ -55,11 +53,11 @@ pub fn key(pit: &mut Pit, text: &mut String, i: u8, key: [u8; 32]) -> Result<(),
 }
 
 // The board that a line names.
-fn made(heap: Global, board: NewBoard) -> Result<EitherBoard, AllocError> {
+fn made(alloc: Global, board: NewBoard) -> Result<EitherBoard, AllocError> {
     match board {
-        NewBoard::Assignment { lines, limit } => Ok(EitherBoard::Assignment(AssignmentTable::new(
-            heap, lines, limit,
-        )?)),
+        NewBoard::Assignment { lines, limit } => {
+            Ok(EitherBoard::Assignment(assignment_table(alloc, lines, limit)?))
+        }
         NewBoard::Tonnage => Ok(EitherBoard::Tonnage(Tonnage::new())),
     }
 }
@@ -67,14 +65,14 @@ fn made(heap: Global, board: NewBoard) -> Result<EitherBoard, AllocError> {
 pub fn open(
     pit: &mut Pit,
     text: &mut String,
-    heap: Global,
+    alloc: Global,
     i: u8,
     slots: u16,
     board: NewBoard,
 ) -> Result<(), Trouble> {
-    let board = made(heap, board)?;
+    let board = made(alloc, board)?;
     write!(text, "open {i}: ")?;
-    pit.open(text, heap, i, slots, board)?;
+    pit.open(text, alloc, i, slots, board)?;
     Ok(writeln!(text, "")?)
 }
 
@@ -88,13 +86,13 @@ pub fn tick(pit: &mut Pit, text: &mut String, i: u8, t: u32) -> Result<(), Troub
 pub fn propose(
     pit: &mut Pit,
     text: &mut String,
-    heap: Global,
+    alloc: Global,
     consoles: (u8, u8),
     space: u16,
     orders: &[Order],
 ) -> Result<(), Trouble> {
     let (i, j) = consoles;
-    let mut out = vec![in heap; 0u8; space as usize]?;
+    let mut out = vec![in alloc; 0u8; space as usize]?;
     write!(text, "propose {i}: ")?;
     pit.propose(text, i, j, orders, out.as_mut_slice())?;
     Ok(writeln!(text, "")?)
@@ -115,18 +113,16 @@ pub fn hear(pit: &mut Pit, text: &mut String, i: u8, bytes: &[u8]) -> Result<(),
 pub fn shelf(
     pit: &mut Pit,
     text: &mut String,
-    heap: Global,
+    alloc: Global,
     i: u8,
     slots: u16,
 ) -> Result<(), Trouble> {
-    pit.lend(heap, i, slots)?;
+    pit.lend(alloc, i, slots)?;
     Ok(writeln!(text, "shelf {i}: {slots} slots")?)
 }
 
 pub fn look(pit: &Pit, text: &mut String, i: u8) -> Result<(), Trouble> {
-    let Some(seat) = pit.seat(i) else {
-        return Err(Trouble::NotOpen);
-    };
+    let seat = pit.seat(i).ok_or(Trouble::NotOpen)?;
     let look = seat.look();
     writeln!(
         text,
@@ -141,17 +137,13 @@ pub fn look(pit: &Pit, text: &mut String, i: u8) -> Result<(), Trouble> {
 }
 
 pub fn store(pit: &Pit, text: &mut String, i: u8) -> Result<(), Trouble> {
-    let Some(seat) = pit.seat(i) else {
-        return Err(Trouble::NotOpen);
-    };
+    let seat = pit.seat(i).ok_or(Trouble::NotOpen)?;
     let image = seat.store();
     Ok(writeln!(text, "store {i}: {}", Hex(&image))?)
 }
 
 pub fn board(pit: &Pit, text: &mut String, i: u8) -> Result<(), Trouble> {
-    let Some(seat) = pit.seat(i) else {
-        return Err(Trouble::NotOpen);
-    };
+    let seat = pit.seat(i).ok_or(Trouble::NotOpen)?;
     write!(text, "board {i}: ")?;
     match seat.board() {
         EitherBoard::Assignment(table) => writeln!(text, "{}", TruckLines(table.lines()))?,

@@ -9,7 +9,6 @@ mod stop;
 
 use bench::bench;
 use clerk::Clerk;
-use script::fault::Fault;
 use script::lines::without_newline;
 use std::io::{BufRead, BufReader, Write};
 use std::process::ExitCode;
@@ -22,18 +21,12 @@ struct Ended;
 
 // Plays one line, and writes its answer out.
 fn play<'a>(rt: &HostRuntime, clerk: &mut Clerk, line: &'a [u8]) -> Result<(), Stop<'a>> {
-    let answer = match clerk.play(rt.alloc(), line) {
-        // no line of those that need no pit: perhaps one of a pit
-        Err(Fault::UnknownWord(_)) => clerk.play_any(rt.alloc(), line)?,
-        answer => answer?,
-    };
-    let Some(answer) = answer else {
+    let Some(answer) = clerk.play_any(rt.alloc(), line)? else {
         return Ok(());
     };
-    match rt.stdout().write_all(answer.as_bytes()) {
-        Ok(()) => Ok(()),
-        Err(_) => Err(Stop::Output),
-    }
+    rt.stdout()
+        .write_all(answer.as_bytes())
+        .map_err(|_| Stop::Output)
 }
 
 // What the command line asks for.
@@ -41,23 +34,22 @@ fn play<'a>(rt: &HostRuntime, clerk: &mut Clerk, line: &'a [u8]) -> Result<(), S
 enum Task {
     Sheet,
     Bench { n: u8, views: u32 },
-    Unknown,
 }
 
-// No words, or `bench N VIEWS`.
-fn asked_for(rt: &HostRuntime) -> io::Result<Task> {
+// No words, or `bench N VIEWS`; other words ask for nothing.
+fn asked_for(rt: &HostRuntime) -> io::Result<Option<Task>> {
     let mut words = env::args(rt)?.skip(1);
     let Some(word) = words.next() else {
-        return Ok(Task::Sheet);
+        return Ok(Some(Task::Sheet));
     };
     let (Some(n), Some(views), None) = (words.next(), words.next(), words.next()) else {
-        return Ok(Task::Unknown);
+        return Ok(None);
     };
     match (n.as_str().parse::<u8>(), views.as_str().parse::<u32>()) {
         (Ok(n), Ok(views)) if word.as_str() == "bench" && n >= 4 && n <= 16 => {
-            Ok(Task::Bench { n, views })
+            Ok(Some(Task::Bench { n, views }))
         }
-        _ => Ok(Task::Unknown),
+        _ => Ok(None),
     }
 }
 
@@ -71,11 +63,8 @@ fn main(rt: HostRuntime) -> ExitCode {
 
 fn run(rt: &HostRuntime) -> Result<(), Ended> {
     match asked_for(rt) {
-        Ok(Task::Sheet) => play_sheet(rt),
-        Ok(Task::Bench { n, views }) => match bench(rt, n, views) {
-            Ok(()) => Ok(()),
-            Err(_) => Err(Ended),
-        },
+        Ok(Some(Task::Sheet)) => play_sheet(rt),
+        Ok(Some(Task::Bench { n, views })) => bench(rt, n, views).map_err(|_| Ended),
         _ => {
             let _ = eprintln!(rt;
                 "shift: plays a sheet from standard input; shift bench N VIEWS, N 4 to 16"

@@ -1,7 +1,7 @@
 use Rattle.shift.proofs.clerk.Clerk.play.Goals as goal
 
-pub returns-in-Ok : goal.returns-in-Ok
-returns-in-Ok c =
+pub returns : goal.returns
+returns c =
     let read = c.in_ok-command.ensures in
-    let said = c.in-Ok.ensures in
+    let said = c.in_ok-answer.ensures in
     (c.in-Some.command, (rw c.in-Some.is at read).1, rw c.new-text.ensures.bytes at said)
