@@ -4,6 +4,7 @@ use rules::refusal::Refusal;
 use wire::key::Key;
 
 // What a tick answers.
+// Stays: of three answers none is an option's, and `Nothing` is the rules' word.
 pub enum Ticked {
     // the console leads the view, and is owed a turn
     Turn(Turn),

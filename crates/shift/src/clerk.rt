@@ -3,6 +3,7 @@ ghost use Rattle.std.specs.Prelude.{string_bytes, OnOk};
 ghost use Rattle.shift.specs.Replies.{Answers, AnswersAny, Replied};
 
 use crate::consoles;
+use crate::consoles::Lines;
 use crate::records::{MacLine, NameLine, ReadLine, write_try};
 use crate::stop::Stop;
 use commands::command::{Command as AnyCommand, PitCommand};
@@ -56,9 +57,10 @@ impl Clerk {
         Ok(Some(text))
     }
 
-    // The pit that stands.
-    fn standing(&mut self) -> Result<&mut Pit, Trouble> {
-        self.pit.as_mut().ok_or(Trouble::NoPit)
+    // The pit that stands, with the text that its answer is added to.
+    fn lines<'b>(&'b mut self, text: &'b mut String) -> Result<Lines<'b>, Trouble> {
+        let pit = self.pit.as_mut().ok_or(Trouble::NoPit)?;
+        Ok(Lines { pit, text })
     }
 
     // Adds the answer to a command of a pit.
@@ -74,15 +76,13 @@ impl Clerk {
                 self.pit = consoles::pit(text, alloc, n, seals)?;
                 Ok(())
             }
-            PitCommand::Key { console, key } => {
-                consoles::key(self.standing()?, text, console, key)
-            }
+            PitCommand::Key { console, key } => { self.lines(text)?.key(console, key) }
             PitCommand::Open {
                 console,
                 slots,
                 board,
-            } => { consoles::open(self.standing()?, text, alloc, console, slots, board) }
-            PitCommand::Tick { console, t } => consoles::tick(self.standing()?, text, console, t),
+            } => { self.lines(text)?.open(alloc, console, slots, board) }
+            PitCommand::Tick { console, t } => self.lines(text)?.tick(console, t),
             PitCommand::Propose {
                 console,
                 turn,
@@ -90,25 +90,19 @@ impl Clerk {
                 orders,
             } => {
                 let consoles = (console, turn);
-                consoles::propose(
-                    self.standing()?,
-                    text,
-                    alloc,
-                    consoles,
-                    space,
-                    orders.as_slice(),
-                )
+                self.lines(text)?
+                    .propose(alloc, consoles, space, orders.as_slice())
             }
-            PitCommand::Pass { turn } => consoles::pass(self.standing()?, text, turn),
+            PitCommand::Pass { turn } => self.lines(text)?.pass(turn),
             PitCommand::Hear { console, bytes } => {
-                consoles::hear(self.standing()?, text, console, bytes.as_slice())
+                self.lines(text)?.hear(console, bytes.as_slice())
             }
             PitCommand::Shelf { console, slots } => {
-                consoles::shelf(self.standing()?, text, alloc, console, slots)
+                self.lines(text)?.shelf(alloc, console, slots)
             }
-            PitCommand::Look { console } => consoles::look(self.standing()?, text, console),
-            PitCommand::Store { console } => consoles::store(self.standing()?, text, console),
-            PitCommand::Board { console } => consoles::board(self.standing()?, text, console),
+            PitCommand::Look { console } => self.lines(text)?.look(console),
+            PitCommand::Store { console } => self.lines(text)?.store(console),
+            PitCommand::Board { console } => self.lines(text)?.board(console),
         }
     }
 

@@ -47,11 +47,6 @@ pub fn pit(
     Ok(Some(pit))
 }
 
-pub fn key(pit: &mut Pit, text: &mut String, i: u8, key: [u8; 32]) -> Result<(), Trouble> {
-    pit.set_key(i, key)?;
-    Ok(writeln!(text, "key {i}: held")?)
-}
-
 // The board that a line names.
 fn made(alloc: Global, board: NewBoard) -> Result<EitherBoard, AllocError> {
     match board {
@@ -62,92 +57,104 @@ fn made(alloc: Global, board: NewBoard) -> Result<EitherBoard, AllocError> {
     }
 }
 
-pub fn open(
-    pit: &mut Pit,
-    text: &mut String,
-    alloc: Global,
-    i: u8,
-    slots: u16,
-    board: NewBoard,
-) -> Result<(), Trouble> {
-    let board = made(alloc, board)?;
-    write!(text, "open {i}: ")?;
-    pit.open(text, alloc, i, slots, board)?;
-    Ok(writeln!(text, "")?)
+// What a line of a pit is played on: the pit that stands, and the text that its answer is added to.
+#[derive(Drop)]
+pub struct Lines<'a> {
+    pub pit: &'a mut Pit,
+    pub text: &'a mut String,
 }
 
-pub fn tick(pit: &mut Pit, text: &mut String, i: u8, t: u32) -> Result<(), Trouble> {
-    write!(text, "tick {i} {t}: ")?;
-    pit.play(text, i, FullRequest::Plain(Request::Tick(t)), &mut [])?;
-    Ok(writeln!(text, "")?)
-}
-
-// Proposes at the first console by the turn that is held for the second.
-pub fn propose(
-    pit: &mut Pit,
-    text: &mut String,
-    alloc: Global,
-    consoles: (u8, u8),
-    space: u16,
-    orders: &[Order],
-) -> Result<(), Trouble> {
-    let (i, j) = consoles;
-    let mut out = vec![in alloc; 0u8; space as usize]?;
-    write!(text, "propose {i}: ")?;
-    pit.propose(text, i, j, orders, out.as_mut_slice())?;
-    Ok(writeln!(text, "")?)
-}
-
-pub fn pass(pit: &mut Pit, text: &mut String, j: u8) -> Result<(), Trouble> {
-    write!(text, "pass {j}: ")?;
-    pit.pass(text, j)?;
-    Ok(writeln!(text, "")?)
-}
-
-pub fn hear(pit: &mut Pit, text: &mut String, i: u8, bytes: &[u8]) -> Result<(), Trouble> {
-    write!(text, "hear {i}: ")?;
-    pit.play(text, i, FullRequest::Plain(Request::Hear(bytes)), &mut [])?;
-    Ok(writeln!(text, "")?)
-}
-
-pub fn shelf(
-    pit: &mut Pit,
-    text: &mut String,
-    alloc: Global,
-    i: u8,
-    slots: u16,
-) -> Result<(), Trouble> {
-    pit.lend(alloc, i, slots)?;
-    Ok(writeln!(text, "shelf {i}: {slots} slots")?)
-}
-
-pub fn look(pit: &Pit, text: &mut String, i: u8) -> Result<(), Trouble> {
-    let seat = pit.seat(i).ok_or(Trouble::NotOpen)?;
-    let look = seat.look();
-    writeln!(
-        text,
-        "look {i}: tick {}, lock {}, head {} {}, count {}",
-        look.tick,
-        look.lock,
-        look.head.view,
-        Hex(&look.head.name),
-        look.count
-    )?;
-    Ok(())
-}
-
-pub fn store(pit: &Pit, text: &mut String, i: u8) -> Result<(), Trouble> {
-    let seat = pit.seat(i).ok_or(Trouble::NotOpen)?;
-    let image = seat.store();
-    Ok(writeln!(text, "store {i}: {}", Hex(&image))?)
-}
-
-pub fn board(pit: &Pit, text: &mut String, i: u8) -> Result<(), Trouble> {
-    let seat = pit.seat(i).ok_or(Trouble::NotOpen)?;
-    write!(text, "board {i}: ")?;
-    match seat.board() {
-        EitherBoard::Assignment(table) => writeln!(text, "{}", TruckLines(table.lines()))?,
-        EitherBoard::Tonnage(board) => writeln!(text, "{}", Tonnes(board))?,
+impl<'a> Lines<'a> {
+    pub fn key(&mut self, i: u8, key: [u8; 32]) -> Result<(), Trouble> {
+        self.pit.set_key(i, key)?;
+        Ok(writeln!(self.text, "key {i}: held")?)
     }
-    Ok(())
+
+    pub fn open(
+        &mut self,
+        alloc: Global,
+        i: u8,
+        slots: u16,
+        board: NewBoard,
+    ) -> Result<(), Trouble> {
+        let board = made(alloc, board)?;
+        write!(self.text, "open {i}: ")?;
+        self.pit.open(self.text, alloc, i, slots, board)?;
+        Ok(writeln!(self.text, "")?)
+    }
+
+    pub fn tick(&mut self, i: u8, t: u32) -> Result<(), Trouble> {
+        write!(self.text, "tick {i} {t}: ")?;
+        self.pit.play(self.text, i, FullRequest::Plain(Request::Tick(t)), &mut [])?;
+        Ok(writeln!(self.text, "")?)
+    }
+
+    // Proposes at the first console by the turn that is held for the second.
+    pub fn propose(
+        &mut self,
+        alloc: Global,
+        consoles: (u8, u8),
+        space: u16,
+        orders: &[Order],
+    ) -> Result<(), Trouble> {
+        let (i, j) = consoles;
+        let mut out = vec![in alloc; 0u8; space as usize]?;
+        write!(self.text, "propose {i}: ")?;
+        self.pit
+            .propose(self.text, i, j, orders, out.as_mut_slice())?;
+        Ok(writeln!(self.text, "")?)
+    }
+
+    pub fn pass(&mut self, j: u8) -> Result<(), Trouble> {
+        write!(self.text, "pass {j}: ")?;
+        self.pit.pass(self.text, j)?;
+        Ok(writeln!(self.text, "")?)
+    }
+
+    pub fn hear(&mut self, i: u8, bytes: &[u8]) -> Result<(), Trouble> {
+        write!(self.text, "hear {i}: ")?;
+        self.pit.play(
+            self.text,
+            i,
+            FullRequest::Plain(Request::Hear(bytes)),
+            &mut [],
+        )?;
+        Ok(writeln!(self.text, "")?)
+    }
+
+    pub fn shelf(&mut self, alloc: Global, i: u8, slots: u16) -> Result<(), Trouble> {
+        self.pit.lend(alloc, i, slots)?;
+        Ok(writeln!(self.text, "shelf {i}: {slots} slots")?)
+    }
+
+    pub fn look(&mut self, i: u8) -> Result<(), Trouble> {
+        let seat = self.pit.seat(i).ok_or(Trouble::NotOpen)?;
+        let look = seat.look();
+        writeln!(
+            self.text,
+            "look {i}: tick {}, lock {}, head {} {}, count {}",
+            look.tick,
+            look.lock,
+            look.head.view,
+            Hex(&look.head.name),
+            look.count
+        )?;
+        Ok(())
+    }
+
+    pub fn store(&mut self, i: u8) -> Result<(), Trouble> {
+        let seat = self.pit.seat(i).ok_or(Trouble::NotOpen)?;
+        let image = seat.store();
+        Ok(writeln!(self.text, "store {i}: {}", Hex(&image))?)
+    }
+
+    pub fn board(&mut self, i: u8) -> Result<(), Trouble> {
+        let seat = self.pit.seat(i).ok_or(Trouble::NotOpen)?;
+        write!(self.text, "board {i}: ")?;
+        match seat.board() {
+            EitherBoard::Assignment(table) => writeln!(self.text, "{}", TruckLines(table.lines()))?,
+            EitherBoard::Tonnage(board) => writeln!(self.text, "{}", Tonnes(board))?,
+        }
+        Ok(())
+    }
 }
