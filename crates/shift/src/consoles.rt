@@ -24,7 +24,7 @@ fn size(n: u32) -> Result<u8, Refusal> {
 }
 
 // A new pit, unless it is refused.
-pub fn pit(
+pub(crate) fn pit(
     text: &mut String,
     alloc: Global,
     n: u32,
@@ -59,18 +59,18 @@ fn made(alloc: Global, board: NewBoard) -> Result<EitherBoard, AllocError> {
 
 // What a line of a pit is played on: the pit that stands, and the text that its answer is added to.
 #[derive(Drop)]
-pub struct Lines<'a> {
-    pub pit: &'a mut Pit,
-    pub text: &'a mut String,
+pub(crate) struct Lines<'a> {
+    pub(crate) pit: &'a mut Pit,
+    pub(crate) text: &'a mut String,
 }
 
 impl<'a> Lines<'a> {
-    pub fn key(&mut self, i: u8, key: [u8; 32]) -> Result<(), Trouble> {
+    pub(crate) fn key(&mut self, i: u8, key: [u8; 32]) -> Result<(), Trouble> {
         self.pit.set_key(i, key)?;
         Ok(writeln!(self.text, "key {i}: held")?)
     }
 
-    pub fn open(
+    pub(crate) fn open(
         &mut self,
         alloc: Global,
         i: u8,
@@ -83,14 +83,14 @@ impl<'a> Lines<'a> {
         Ok(writeln!(self.text, "")?)
     }
 
-    pub fn tick(&mut self, i: u8, t: u32) -> Result<(), Trouble> {
+    pub(crate) fn tick(&mut self, i: u8, t: u32) -> Result<(), Trouble> {
         write!(self.text, "tick {i} {t}: ")?;
         self.pit.play(self.text, i, FullRequest::Plain(Request::Tick(t)), &mut [])?;
         Ok(writeln!(self.text, "")?)
     }
 
     // Proposes at the first console by the turn that is held for the second.
-    pub fn propose(
+    pub(crate) fn propose(
         &mut self,
         alloc: Global,
         consoles: (u8, u8),
@@ -105,13 +105,13 @@ impl<'a> Lines<'a> {
         Ok(writeln!(self.text, "")?)
     }
 
-    pub fn pass(&mut self, j: u8) -> Result<(), Trouble> {
+    pub(crate) fn pass(&mut self, j: u8) -> Result<(), Trouble> {
         write!(self.text, "pass {j}: ")?;
         self.pit.pass(self.text, j)?;
         Ok(writeln!(self.text, "")?)
     }
 
-    pub fn hear(&mut self, i: u8, bytes: &[u8]) -> Result<(), Trouble> {
+    pub(crate) fn hear(&mut self, i: u8, bytes: &[u8]) -> Result<(), Trouble> {
         write!(self.text, "hear {i}: ")?;
         self.pit.play(
             self.text,
@@ -122,12 +122,12 @@ impl<'a> Lines<'a> {
         Ok(writeln!(self.text, "")?)
     }
 
-    pub fn shelf(&mut self, alloc: Global, i: u8, slots: u16) -> Result<(), Trouble> {
+    pub(crate) fn shelf(&mut self, alloc: Global, i: u8, slots: u16) -> Result<(), Trouble> {
         self.pit.lend(alloc, i, slots)?;
         Ok(writeln!(self.text, "shelf {i}: {slots} slots")?)
     }
 
-    pub fn look(&mut self, i: u8) -> Result<(), Trouble> {
+    pub(crate) fn look(&mut self, i: u8) -> Result<(), Trouble> {
         let seat = self.pit.seat(i).ok_or(Trouble::NotOpen)?;
         let look = seat.look();
         writeln!(
@@ -142,13 +142,13 @@ impl<'a> Lines<'a> {
         Ok(())
     }
 
-    pub fn store(&mut self, i: u8) -> Result<(), Trouble> {
+    pub(crate) fn store(&mut self, i: u8) -> Result<(), Trouble> {
         let seat = self.pit.seat(i).ok_or(Trouble::NotOpen)?;
         let image = seat.store();
         Ok(writeln!(self.text, "store {i}: {}", Hex(&image))?)
     }
 
-    pub fn board(&mut self, i: u8) -> Result<(), Trouble> {
+    pub(crate) fn board(&mut self, i: u8) -> Result<(), Trouble> {
         let seat = self.pit.seat(i).ok_or(Trouble::NotOpen)?;
         write!(self.text, "board {i}: ")?;
         match seat.board() {

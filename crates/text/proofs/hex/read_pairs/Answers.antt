@@ -27,14 +27,3 @@ loop-high-preserved c =
     let pushed = c.in_ok-push.ensures.items in
     let next = pair_next (vec_items c.loop-high.bytes) c.args.digits.now c.loop-high.high-index (omega arith) c.loop-high.invariant.1 c.as_chunks.result.0.now c.as_chunks.ensures.front c.byte.result c.byte.ensures c.in_ok-ok_or.field-0 (grind arith) in
     rw pushed (All-push (λ b. b < 256) _ _ c.loop-high.invariant.0 next.0, next.1)
-
-pub returns : goal.returns
-returns c =
-    let odd : length c.as_chunks.result.1.now ≡ length c.args.digits.now % 2 = c.as_chunks.ensures.back_len in
-    let size : length c.as_chunks.result.0.now ≡ length c.args.digits.now / 2 = c.as_chunks.ensures.front_len in
-    let test = c.is_empty.ensures in
-    let end : length c.args.digits.now ≤ 2 * c.loop-high.high-index = grind (arith, nat_tests) in
-    let none = drop_all (2 * c.loop-high.high-index) c.args.digits.now end in
-    let whole = c.loop-high.invariant.1 in
-    let left = append-nil (hex_pairs (vec_items c.loop-high.bytes)) in
-    (c.loop-high.invariant.0, cc)

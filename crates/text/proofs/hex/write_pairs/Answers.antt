@@ -11,8 +11,3 @@ loop-b-preserved g c plain =
     let before = c.loop-b.invariant plain in
     let after = c.write_byte.ensures before.plain went in
     has_written_of_eq _ _ _ _ _ (pairs_more c.args.bytes.now c.loop-b.b-index c.loop-b-test.true) (has_written_append _ _ _ _ _ _ before after)
-
-pub returns : goal.returns
-returns g c plain ok =
-    let all = take_all c.loop-b.b-index c.args.bytes.now (omega arith) in
-    has_written_of_eq _ _ _ _ _ (ap hex_pairs all) (c.loop-b.invariant plain)
