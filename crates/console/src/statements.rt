@@ -5,6 +5,7 @@ use wire::key::Key;
 use wire::statement::{Purpose, Statement};
 
 // What the leader's seal of a proposal is over.
+// Stays: `proposes` and `votes_for` are the rules' two words, and one function of a purpose would say neither.
 pub(crate) fn proposes(block: &Key) -> Statement
     ensures { result ≡ proposes block.now }
 {

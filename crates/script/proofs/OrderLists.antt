@@ -71,9 +71,6 @@ pub record Taken (due : Bool) (fields : List (List ℕ)) (vs : List Order) (more
   pub on : (os : List Order) → OrdersDue more rest os → OrdersDue due fields (vs ++ os)
   pub back : (os : List Order) → OrdersDue due fields os → (ws : List Order) × OrdersDue more rest ws
 
-pub taken_none : (due : Bool) (fields : List (List ℕ)) → Taken due fields [] due fields
-taken_none due fields = record { on = λ os said. said; back = λ os said. (os, said) }
-
 back_more : (rest : List (List ℕ)) (o : Order) (m : Bool) (after : List (List ℕ)) → HasOrder rest (marked o m) after → (ws : List Order) → OrdersDue true rest ws → (os : List Order) × OrdersDue m after os
 back_more rest o m after took [] said = absurd said
 back_more rest o m after took (w ∷ ws) said =
@@ -123,10 +120,6 @@ module _ (empty : Bool) (fields : List (List ℕ)) (vs : List Order) (more : Boo
       let was = back_to e os said in
       not_ended f left (end_due was.0 (subst (λ (b : Bool). OrdersDue b rest was.0) done was.1))
 
--- a board that is an assignment board by its word
-pub board_by : (r : Result NewBoard Fault) (word : List ℕ) (fields before after : List (List ℕ)) → before ≡ word ∷ fields → bytes_eq word (codes "assignment") ≡ true → MatchResult r (λ b. HasAssignment fields b after) (λ e. Refutes e (Possible HasAssignment fields)) → MatchResult r (λ b. HasBoard before b after) (λ e. Refutes e (Possible HasBoard before))
-board_by r word fields before after e test said = rw (e, test) said
-
 rest_by : (a t : Bool) (b d : NewBoard) (fields after rest : List (List ℕ)) →
     MatchBool a (HasAssignment fields b after) (MatchBool t ((b ≡ Tonnage) × (fields ≡ after)) ⊥) →
     MatchBool a (HasAssignment fields d rest) (MatchBool t ((d ≡ Tonnage) × (fields ≡ rest)) ⊥) → after ≡ rest
@@ -140,6 +133,3 @@ rest_by false false b d fields after rest x y = absurd x
 pub same_board : (before : List (List ℕ)) (b d : NewBoard) (after rest : List (List ℕ)) → HasBoard before b after → HasBoard before d rest → after ≡ rest
 same_board [] b d after rest x y = absurd x
 same_board (word ∷ fields) b d after rest x y = rest_by (bytes_eq word (codes "assignment")) (bytes_eq word (codes "tonnage")) b d fields after rest x y
-
-pub single_board : Single HasBoard
-single_board = record { same = λ before a b after rest x y. same_board before b a rest after y x }

@@ -19,17 +19,8 @@ pub record Single {A : Type 0} (Has : List (List ℕ) → A → List (List ℕ) 
 same_tail : {f g : List ℕ} {before after rest : List (List ℕ)} → before ≡ f ∷ after → before ≡ g ∷ rest → rest ≡ after
 same_tail a b = cc
 
-pub single_number : {highest : ℕ} → Single (HasNumber highest)
-single_number = record { same = λ before a b after rest x y. same_tail x.first y.first }
-
-pub single_consoles : Single HasConsoles
-single_consoles = record { same = λ before a b after rest x y. same_tail x.1.first y.1.first }
-
 pub single_bytes : Single HasBytes
 single_bytes = record { same = λ before a b after rest x y. same_tail x.1 y.1 }
-
-pub single_key : Single HasKey
-single_key = record { same = λ before a b after rest x y. same_tail x.1.1 y.1.1 }
 
 module _ {A : Type 0} {Has : List (List ℕ) → A → List (List ℕ) → Type 0} {On : A → List (List ℕ) → Type 0} {before : List (List ℕ)} where
   pub taken : (a : A) (after : List (List ℕ)) → Has before a after → On a after → Then Has On before

@@ -23,6 +23,7 @@ impl<'a> Branches<'a> {
     }
 
     // Whether the line of held parents reaches the head.
+    // Stays: the loop goes from a block to its parent, wherever on the shelf that is, and no iterator does.
     pub(crate) fn reaches_head(&self, block: &'a Block) -> bool
         ensures { result ≡ reaches self.now.shelf.now self.now.head block.now }
     {

@@ -1,0 +1,8 @@
+use Rattle.std.proofs.Common.{refl}
+use Rattle.script.proofs.command.read_name.Goals as goal
+
+pub returns : goal.returns
+returns c =
+    let taken = c.in_ok-bytes.ensures in
+    let ended = c.in_ok-end.ensures in
+    (c.in_ok-bytes.bytes, refl, (taken.0, cc))
