@@ -10,6 +10,7 @@ pub mod ticking;
 
 // A console. The shelf of blocks stays with the host, who lends it to each call.
 // Stays: `same` in each contract over `&mut self`: it relates the seals before and after, which no invariant can say.
+// Stays: shelf and output are lent to each call, since the memory is the host's.
 #[derive(Drop)]
 pub struct Console<S, T, B> {
     seals: S,

@@ -17,6 +17,7 @@ pub trait Seals {
         ensures { result ≡ (keys self.now).own };
 
     // Whether the signer's seal of the statement is accepted. A seal has 16 bytes; others are not accepted.
+    // Stays: signer and statement are the arguments of one question, which each kind of seals answers.
     fn check(&self, signer: u8, statement: &Statement, seal: &[u8]) -> bool
         ensures { result ≡ (keys self.now).table signer statement.now seal.now };
 

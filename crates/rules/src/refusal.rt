@@ -46,6 +46,7 @@ pub enum Refusal {
 
 impl Refusal {
     // The number under which the rules list it.
+    // Stays: sheets show refusals by these numbers.
     pub fn number(&self) -> u8
         ensures { result ≡ code self.now }
     {

@@ -75,6 +75,7 @@ impl Body {
     pub fn name(&self) -> [u8; 32]
         ensures { result ≡ body_name self.now }
     {
+        // Stays: the core has no heap, so the room is that of the longest body.
         let mut bytes = [0; Self::LONGEST];
         let size = self.size();
         self.put(&mut Writer::over(&mut bytes));

@@ -16,6 +16,7 @@ pub enum Unreadable {
 
 impl Unreadable {
     // The refusal's number.
+    // Stays: sheets show refusals by these numbers.
     pub fn number(&self) -> u8
         ensures { result ≡ code self.now }
     {

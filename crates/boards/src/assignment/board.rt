@@ -32,6 +32,7 @@ impl<'a> Assignment<Shelf<'a, Option<Line>>> {
 
 impl<L: Lines> Assignment<L> {
     // The board of a table as it stands.
+    // Stays: which limit a board has is said where one is made; it is no invariant.
     pub fn over(table: L, limit: u16) -> Self
         ensures table { result.table ≡ table }
         ensures limit { result.limit ≡ limit }
