@@ -14,6 +14,7 @@ use std::alloc::Global;
 use text::fields::Fields;
 
 // A line that names a console and nothing more.
+// Stays: word and fields are one line taken apart, and only the reader of the word needs both.
 fn console_line<'a>(word: &'a [u8], fields: Fields<'a>) -> Result<PitCommand, Fault<'a>>
     ensures { Reads (SaysOfConsole word.now fields.entry) result }
 {
@@ -79,6 +80,7 @@ fn pit_line<'a>(alloc: Global, word: &'a [u8], fields: Fields<'a>) -> Result<Pit
 }
 
 // Whether a line of this word needs no pit.
+// Stays: two lists of words, each beside its reader; a table to search would be a list of slices searched by hand.
 fn is_plain(word: &[u8]) -> bool
     ensures { result ≡ is_plain_word word.now }
 {

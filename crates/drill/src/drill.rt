@@ -89,6 +89,7 @@ impl Drill {
     pub fn new(alloc: Global, n: u8) -> Result<Drill, AllocError> {
         let mut cabs = Vec::new(alloc);
         let keys = keys();
+        // Stays: the consoles' own numbers, before there is a list of them.
         for own in 0..n {
             if let Some(cab) = Cab::open(alloc, n, own, &keys)? {
                 cabs.push(cab)?;
@@ -116,6 +117,7 @@ impl Drill {
             turn.pass();
             return;
         };
+        // Stays: the console writes into what it is lent.
         let mut out = [0; Proposal::LONGEST];
         let Ok(proposed) = cab.propose(turn, &loads(), &mut out) else {
             return;

@@ -79,6 +79,7 @@ impl Listener {
             certificate,
             seal: stamp(leader, Purpose::Propose, body.key()),
         };
+        // Stays: the writer of a proposal needs room, which is the host's.
         let mut out = [0; Proposal::LONGEST];
         if let Some(length) = proposal.write(&mut out) {
             self.hear(&out[0..length.min(Proposal::LONGEST)]);
@@ -87,6 +88,7 @@ impl Listener {
 
     // Hears the votes of the consoles 1, 2 and 3 for the block.
     fn hear_votes(&mut self, block: Key) {
+        // Stays: the voters' numbers; nothing is looked up by them.
         for voter in 1..4u8 {
             let vote = Vote {
                 block,

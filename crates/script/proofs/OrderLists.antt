@@ -1,5 +1,5 @@
 -- Fields that are taken one after another.
-use Rattle.std.proofs.Common.{◌≡◌, ℕ, Bool, true, false, not, List, [], ◌∷◌, ◌++◌, codes, MatchBool, Result, sym, ◌∙◌, subst, append_assoc, append-nil, MatchResult}
+use Rattle.std.proofs.Common.{◌≡◌, ℕ, Bool, true, false, not, List, [], ◌∷◌, ◌++◌, codes, MatchBool, sym, ◌∙◌, subst, append_assoc, append-nil}
 use Rattle.std.specs.Str.{bytes_eq}
 use Rattle.text.specs.Splitting.{none_left, Leaves}
 use Rattle.text.specs.declared.fields.FieldError.{FieldError}
@@ -9,10 +9,8 @@ use Rattle.script.specs.OrderFields.{HasLast, HasSend, HasRelease, HasLoad, HasO
 use Rattle.script.specs.declared.marked.Marked.{Marked}
 use Rattle.script.specs.declared.command.NewBoard.TheVariants.{Tonnage}
 use Rattle.script.specs.Boards.{HasAssignment, HasBoard}
-use Rattle.script.specs.Faults.{Refutes}
-use Rattle.script.proofs.Sequence.{Single, not_ended}
+use Rattle.script.proofs.Sequence.{not_ended}
 use Rattle.script.specs.declared.command.NewBoard.{NewBoard}
-use Rattle.script.specs.declared.fault.Fault.{Fault}
 
 -- what a number leaves does not depend on how it is read
 pub same_rest : {highest m n : ℕ} {before mid rest : List (List ℕ)} → HasNumber highest before m mid → HasNumber highest before n rest → rest ≡ mid

@@ -3,7 +3,7 @@ use Rattle.std.proofs.Common.{◌≡◌, ℕ, List, [], ◌∷◌, IsErrAnd, Ok,
 use Rattle.text.specs.Splitting.{Leaves}
 use Rattle.text.specs.declared.fields.FieldError.{FieldError}
 use Rattle.text.specs.declared.fields.FieldError.TheVariants.{Missing, Empty, TooMany}
-use Rattle.script.specs.Arguments.{HasBytes, HasKey, HasNumber, HasConsoles, Possible, Then}
+use Rattle.script.specs.Arguments.{HasBytes, Possible, Then}
 use Rattle.script.specs.Faults.{Refutes}
 use Rattle.script.specs.declared.fault.Fault.{Fault}
 

@@ -30,6 +30,7 @@ pub enum NewBoard {
     Tonnage,
 }
 
+// Stays: the allocator goes to the readers that ask for memory; a field of it would be asked of all.
 fn read_name<'a>(alloc: Global, mut fields: Fields<'a>) -> Result<Command, Fault<'a>>
     ensures { Reads (NameArguments fields.entry) result }
 {

@@ -13,6 +13,7 @@ pub trait Number: Copy {
         ensures { MatchOption result (number highest < n) (λ v. (number v ≡ n) × (n ≤ number highest)) };
 }
 
+// Stays: the width is known to each type alone, and an impl may not come from a macro.
 impl Number for u8 {
     ghost number = { λ n. n };
 

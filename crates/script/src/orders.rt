@@ -78,6 +78,7 @@ pub fn orders<'a>(alloc: Global, mut fields: Fields<'a>) -> Result<Vec<Order>, F
 {
     let mut orders = Vec::new(alloc);
     let mut more = !fields.is_empty();
+    // Stays: an order says itself whether another one follows, so that nothing is counted.
     while more {
         let next = order(&mut fields)?;
         orders.push(next.value)?;

@@ -16,12 +16,6 @@ module _ {W : Type 0} (rule : W → Order → W) (effect : W → Order → Bool)
   effects_some w [] some = absurd (some refl)
   effects_some w (o ∷ os) some = refl
 
--- the effects from a new board on, and then the board after the orders
-pub board_after : {V E W : Type 0} (r : Result V E) (told : W → List ℕ) (after : W → W) (shown : W → List ℕ) (fresh w v : W) (start effects now : List ℕ) → w ≡ fresh → effects ≡ start ++ told w → v ≡ after w → IfOk r (λ _. now ≡ effects ++ (codes "; " ++ shown v)) → IfOk r (λ _. now ≡ start ++ (told fresh ++ (codes "; " ++ shown (after fresh))))
-board_after r told after shown fresh w v start effects now new said moved =
-    IfOk-weaker r (λ _. now ≡ effects ++ (codes "; " ++ shown v)) (λ _. now ≡ start ++ (told fresh ++ (codes "; " ++ shown (after fresh))))
-    (λ _ added. let whole = append_assoc start (told fresh) (codes "; " ++ shown (after fresh)) in cc)
-
 -- which orders are refused
 -- bad orders, shown by their number
 bad_orders : codes " refused 7" ≡ codes " refused " ++ decimal 7

@@ -71,6 +71,7 @@ impl<'a> Fields<'a> {
     }
 
     // Whether every field is taken, as an error if one is left.
+    // Stays: of the three outcomes only one is handed on, so that `?` would not say it.
     pub fn end(mut self) -> Result<(), FieldError>
         ensures { MatchResult result (λ _. self.entry ≡ []) (Leaves self.entry) }
     {

@@ -29,6 +29,7 @@ pub struct Tally {
 
 impl Tally {
     // One more example. A count that is full stays so.
+    // Stays: `right` is the answer itself and picks no kind.
     fn count(&mut self, right: bool)
         ensures run { self.new.run ≡ more self.old.run }
         ensures right { self.new.right ≡ (if right then more self.old.right else self.old.right) }

@@ -87,6 +87,7 @@ impl Pit {
     }
 
     // The seat of an open console, to be changed.
+    // Stays: one lends the seat to be read and one to be changed, which no one signature does.
     fn seat_mut(&mut self, i: u8) -> Option<&mut Seat>
         ensures { option_map (λ x. x.now) result ≡ seat_at self.old i }
     {
@@ -126,6 +127,7 @@ impl Pit {
     }
 
     // Opens a console over its own store, with a new board and a new shelf of so many slots, unless its number is not below n.
+    // Stays: the text is the clerk's and the pit outlives it, so that a struct of both would be made anew for each line.
     pub fn open(
         &mut self,
         text: &mut String,

@@ -56,6 +56,7 @@ impl Seat {
     }
 
     // Lends the console another shelf from now on.
+    // Stays: what a call leaves alone relates before and after, so that no invariant says it.
     pub fn lend(&mut self, shelf: Vec<Option<Block>>)
         ensures console { self.new.console ≡ self.old.console }
         ensures shelf { self.new.shelf ≡ shelf }

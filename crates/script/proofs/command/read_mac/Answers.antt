@@ -1,5 +1,4 @@
-use Rattle.std.proofs.Common.{[], vec_items, refl}
-use Rattle.std.proofs.lemmas.Result.{err_from_is_err_and}
+use Rattle.std.proofs.Common.{refl}
 use Rattle.script.proofs.command.read_mac.Goals as goal
 
 pub returns : goal.returns

@@ -1,7 +1,4 @@
-use Rattle.std.proofs.Common.{ℕ, List, vec_items, refl, subst}
-use Rattle.std.proofs.lemmas.Result.{err_from_is_err_and}
-use Rattle.script.specs.OrderFields.{HasOrders}
-use Rattle.script.proofs.OrderLists.{same_board}
+use Rattle.std.proofs.Common.{refl}
 use Rattle.script.proofs.command.read_try.Goals as goal
 
 pub returns : goal.returns

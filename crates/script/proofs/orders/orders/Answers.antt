@@ -1,5 +1,4 @@
-use Rattle.std.proofs.lemmas.Result.{err_from_is_err_and}
-use Rattle.script.proofs.OrderLists.{orders_more, orders_all, orders_fault, orders_left}
+use Rattle.script.proofs.OrderLists.{orders_more, orders_all}
 use Rattle.script.proofs.orders.orders.Goals as goal
 
 pub loop-more-preserved : goal.loop-more-preserved

@@ -1,7 +1,5 @@
-use Rattle.std.proofs.Common.{◌≡◌, true, is_ok, ap, arith}
+use Rattle.std.proofs.Common.{◌≡◌, true, is_ok, arith}
 use Rattle.std.proofs.Output.{has_written_append, has_written_of_eq}
-use Rattle.std.proofs.lemmas.List.{take_all}
-use Rattle.text.specs.Hexadecimal.{hex_pairs}
 use Rattle.text.proofs.Pairs.{pairs_more}
 use Rattle.text.proofs.hex.write_pairs.Goals as goal
 
