@@ -29,6 +29,7 @@ fn report(rt: &HostRuntime, counts: Counts, nanos: u128, first: u64) -> io::Resu
 pub fn bench(rt: &HostRuntime, n: u8, views: u32) -> io::Result<()> {
     let mut drill = Drill::new(rt.alloc(), n)?;
     let start = Instant::now(rt)?;
+    // Stays: the views themselves; nothing is looked up by them.
     for view in 1..views.saturating_add(1) {
         drill.play_view(view)?;
     }

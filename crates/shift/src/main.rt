@@ -81,11 +81,13 @@ fn play_sheet(rt: &HostRuntime) -> Result<(), Ended> {
         let _ = eprintln!(rt; "shift: no memory left");
         return Err(Ended);
     };
+    // Stays: the numbers of the lines, which are shown; nothing is looked up by them.
     for number in 1..u64::MAX {
         let mut line = Vec::new(rt.alloc());
         let played = match input.read_until(b'\n', &mut line) {
             Ok(0) => return Ok(()),
             Ok(_) => play(rt, &mut clerk, without_newline(line.as_slice())),
+            // Stays: beside two other outcomes, which `map_err` would part from it.
             Err(_) => Err(Stop::Input),
         };
         if let Err(stop) = played {

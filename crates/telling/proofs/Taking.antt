@@ -1,8 +1,7 @@
 -- Orders that a board takes, and the text of their effects.
-use Rattle.std.proofs.Common.{◌≡◌, ℕ, ◌<◌, ◌≤◌, Bool, true, false, List, [], ◌∷◌, ◌++◌, length, IfOk, codes, decimal, Result, refl, sym, ap, lit<, append_assoc, le-leb}
+use Rattle.std.proofs.Common.{◌≡◌, ℕ, ◌<◌, ◌≤◌, Bool, true, false, List, [], ◌∷◌, ◌++◌, length, codes, decimal, refl, sym, ap, lit<, le-leb}
 use borrow.Author.Tests.{lt-leb}
 use Rattle.std.proofs.lemmas.Fmt.{decimal_digit}
-use Rattle.std.proofs.lemmas.Result.{IfOk-weaker}
 use Rattle.wire.specs.Read.{all_well_formed}
 use Rattle.wire.specs.declared.order.Order.{Order}
 use Rattle.script.specs.declared.command.NewBoard.{NewBoard}
