@@ -13,6 +13,7 @@ use rules::refusal::Refusal;
 use std::alloc::{AllocError, Global};
 use wire::order::Order;
 
+// Stays: not one type with the pit's seat, which has other parts and a turn that it must not let go.
 #[derive(Drop)]
 pub struct Cab {
     console: Console<KeyedSeals, HeldNumbers, Tonnage>,

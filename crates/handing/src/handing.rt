@@ -103,6 +103,7 @@ impl Listener {
     fn tick(&mut self, t: u32) {
         match self.console.tick(&mut self.shelf, t) {
             Ok(Ticked::Turn(turn)) => turn.pass(),
+            // Stays: an arm for each, since one pattern for all three would let a tick go, in which a turn may be.
             Ok(Ticked::Vote(_, _)) => {}
             Ok(Ticked::Nothing) => {}
             Err(_) => {}

@@ -12,7 +12,7 @@ use wire::certificate::Signers;
 use wire::key::Key;
 
 // The lowest slot that has the key.
-// Stays: the shelf is lent to each call, and a struct of it with the key looked for would live no longer than the call.
+// Stays: a struct of shelf and key is no plainer, since it would be made for one look-up and let go.
 pub fn find(shelf: &[Option<Block>], key: &Key) -> Option<usize>
     ensures inside { Inside result shelf.now }
     ensures slot { result ≡ where_held key.now shelf.now }

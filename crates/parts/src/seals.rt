@@ -17,7 +17,7 @@ pub trait Seals {
         ensures { result ≡ (keys self.now).own };
 
     // Whether the signer's seal of the statement is accepted. A seal has 16 bytes; others are not accepted.
-    // Stays: signer and statement are the arguments of one question, which each kind of seals answers.
+    // Stays: a struct of signer and statement is no plainer, since each of the three impls would take it apart again.
     fn check(&self, signer: u8, statement: &Statement, seal: &[u8]) -> bool
         ensures { result ≡ (keys self.now).table signer statement.now seal.now };
 
@@ -47,8 +47,5 @@ pub(crate) fn is_signer(number: u8) -> bool
 pub(crate) fn is_seal(given: &[u8], seal: &[u8; 16]) -> bool
     ensures { result ≡ bytes_eq given.now seal.now }
 {
-    match <&[u8; 16]>::try_from(given) {
-        Ok(given) => same_seal(given, seal),
-        Err(_) => false,
-    }
+    <&[u8; 16]>::try_from(given).is_ok_and(|given| same_seal(given, seal))
 }

@@ -25,6 +25,15 @@ impl From<AllocError> for Trouble {
     }
 }
 
+// Text that cannot grow wants memory.
+impl From<fmt::Error> for Trouble {
+    ghost from_gives = { λ e r. r ≡ NoMemory };
+
+    fn from(_: fmt::Error) -> Trouble {
+        Trouble::NoMemory
+    }
+}
+
 impl fmt::Display for Trouble {
     ghost output = { λ t. Some (trouble_told t) };
 

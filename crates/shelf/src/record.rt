@@ -25,6 +25,7 @@ pub trait Record: Copy {
 }
 
 // A value with a key of its own kind: what may stand in a slot.
+// Stays: a trait beside `Record`, since a value that always has a key has no empty form; the slot of one has both.
 pub trait Keyed: Copy {
     type Key: Copy + Eq;
 
@@ -50,10 +51,7 @@ impl<T: Keyed> Record for Option<T> {
     ghost equal = { Prim.search rules };
 
     fn key(&self) -> Option<T::Key> {
-        match self {
-            Some(held) => Some(held.key()),
-            None => None,
-        }
+        self.as_ref().map(|held| held.key())
     }
 
     fn empty() -> Self {

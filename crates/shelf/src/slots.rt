@@ -28,6 +28,7 @@ pub fn vacant<R: Record>(slots: &[R]) -> Option<usize>
 }
 
 // Writes a record over a slot; a number past the last slot changes nothing.
+// Stays: `get_mut` was tried; that it leaves the slice with this one item changed was left open.
 pub fn replace<R: Record>(slots: &mut [R], at: usize, item: R)
     ensures { slots.new ≡ slice_set slots.old at item }
 {
@@ -55,7 +56,7 @@ pub fn clear<R: Record>(slots: &mut [R], at: usize)
 }
 
 // Writes a record over every slot.
-// Stays: the slice's own `fill` asks what `clone` gives, for which each record would need two more laws.
+// Stays: the slice's own `fill` was tried; that a record's `clone` never fails and gives the record itself was left open.
 fn fill<R: Record>(slots: &mut [R], item: R)
     ensures { slots.new ≡ replicate (length slots.old) item }
 {

@@ -89,9 +89,8 @@ impl Clerk {
                 space,
                 orders,
             } => {
-                let consoles = (console, turn);
                 self.lines(text)?
-                    .propose(alloc, consoles, space, orders.as_slice())
+                    .propose(alloc, console, turn, space, orders.as_slice())
             }
             PitCommand::Pass { turn } => self.lines(text)?.pass(turn),
             PitCommand::Hear { console, bytes } => {
@@ -116,7 +115,7 @@ impl Clerk {
     {
         match read_any_line(alloc, line)? {
             None => Ok(None),
-            // `play` reads the line again: it is the one that answers it
+            // Stays: `play` reads the line again, since the promise for lines that need no pit stands on it.
             Some(AnyCommand::Plain(_)) => Ok(self.play(alloc, line)?),
             Some(AnyCommand::OfPit(command)) => {
                 let mut text = String::new(alloc);

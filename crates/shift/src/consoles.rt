@@ -89,15 +89,15 @@ impl<'a> Lines<'a> {
         Ok(writeln!(self.text, "")?)
     }
 
-    // Proposes at the first console by the turn that is held for the second.
+    // Proposes at console i by the turn that is held for console j.
     pub(crate) fn propose(
         &mut self,
         alloc: Global,
-        consoles: (u8, u8),
+        i: u8,
+        j: u8,
         space: u16,
         orders: &[Order],
     ) -> Result<(), Trouble> {
-        let (i, j) = consoles;
         let mut out = vec![in alloc; 0u8; space as usize]?;
         write!(self.text, "propose {i}: ")?;
         self.pit

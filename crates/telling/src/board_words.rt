@@ -23,6 +23,7 @@ impl fmt::Display for TruckLine<'_> {
     }
 }
 
+// Stays: each loop writes items of its own kind with their own words between; one for all would take both as closures.
 fn write_lines<W: fmt::Write>(f: &mut fmt::Formatter<W>, lines: &[Option<Line>]) -> fmt::Result
     ensures { WritesOnOk W.write_str_gives f.old result (flat_map line_told lines.now) f.new }
 {

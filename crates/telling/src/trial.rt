@@ -59,6 +59,7 @@ fn write_effects<B: Board>(
 }
 
 // Adds an assignment board after the effects.
+// Stays: the lines that a board lends, shown where they are lent, were tried; the check makes no goal of it.
 fn write_lines(text: &mut String, lines: &[Option<Line>]) -> Result<(), AllocError>
     ensures { Adds text.old result (codes "; " ++ assignment_told lines.now) text.new }
 {

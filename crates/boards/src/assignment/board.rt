@@ -32,7 +32,7 @@ impl<'a> Assignment<Shelf<'a, Option<Line>>> {
 
 impl<L: Lines> Assignment<L> {
     // The board of a table as it stands.
-    // Stays: which limit a board has is said where one is made; it is no invariant.
+    // Stays: a struct around the limit would say no more than the clause `limit` of the three makers.
     pub fn over(table: L, limit: u16) -> Self
         ensures table { result.table ≡ table }
         ensures limit { result.limit ≡ limit }

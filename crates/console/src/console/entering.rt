@@ -36,7 +36,7 @@ impl<S: Seals, T: Store, B: Board> Console<S, T, B> {
 
     // Makes the call that the request says, over the console's own shelf: one line of a shift sheet. Of whole sheets holds what
     // the promise says: chains of sound consoles never part, boards show their chains, and a timely stretch hands over.
-    // Stays: the promise stands at each call by which a program enters a line, for a reader of either.
+    // Stays: the clause `promise` at both calls that enter a line is no longer than a name for it would be.
     pub fn enter(&mut self, shelf: &mut [Option<Block>], request: Request, out: &mut [u8]) -> Reply
         ensures advances { Advances B.Board.rule (S.Seals.keys self.old.seals) (seen T.Store.kept self.old shelf.old) (call_of request.entry (length shelf.old) (length out.old)) (B.Board.world self.old.board) out.old (stands T.Store.kept B.Board.world self.new shelf.new (reply_answer result) (reply_handed result) out.new) }
         ensures same { S.Seals.keys self.new.seals ≡ S.Seals.keys self.old.seals }

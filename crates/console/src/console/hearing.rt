@@ -91,7 +91,7 @@ impl<S: Seals, T: Store, B: Board> Console<S, T, B> {
     }
 
     // A new vote joins its block's tally.
-    // Stays: whoever forges a vote may write any number into it, so that its type cannot say that the voter is below 16.
+    // Stays: a second type, of votes whose voter is below 16, would be no plainer than this clause of three functions.
     fn count_vote(&mut self, shelf: &mut [Option<Block>], vote: &Vote) -> Heard
         requires { vote.now.voter < 16 }
         ensures did { Does B.Board.rule (S.Seals.keys self.old.seals) (count_vote vote.now (seen T.Store.kept self.old shelf.old)) [] (B.Board.world self.old.board) [] (stands T.Store.kept B.Board.world self.new shelf.new (heard_answer result) (heard_handed result) []) }

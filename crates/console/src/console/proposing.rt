@@ -72,6 +72,7 @@ impl<S: Seals, T: Store, B: Board> Console<S, T, B> {
         console == self.permit.own && self.may_propose_in(view)
     }
 
+    // Stays: body and key side by side, since `Named` of hearing would have to hold a body or a proposal.
     // Proposes the body: seals and writes it, puts it on the shelf, and settles.
     fn propose_body(
         &mut self,

@@ -1,5 +1,6 @@
-ghost use Rattle.std.specs.Prelude.{◌≡◌, ◌-◌, ◌/◌, replicate, IfOk, IsOk, IsSome, None, vec_items, string_bytes, OnOk, ◌↔◌};
+ghost use Rattle.std.specs.Prelude.{◌≡◌, ◌-◌, replicate, IfOk, IsOk, IsSome, None, vec_items, string_bytes, OnOk, ◌↔◌};
 ghost use Rattle.std.specs.Option.{option_map};
+ghost use Rattle.votes.specs.Quorum.{spare};
 ghost use Rattle.pit.specs.Pits.{LinePlayed, seat_at};
 
 use crate::pit::Pit;
@@ -21,11 +22,8 @@ use wire::order::Order;
 // A request that comes to no console: a turn in it is passed.
 fn spend(request: FullRequest<'_, EitherSeals, EitherBoard>) {
     match request {
-        FullRequest::Plain(Request::Propose(turn, _)) => turn.pass(),
-        FullRequest::Plain(Request::Pass(turn)) => turn.pass(),
-        FullRequest::Plain(Request::Open) => {}
-        FullRequest::Plain(Request::Tick(_)) => {}
-        FullRequest::Plain(Request::Hear(_)) => {}
+        FullRequest::Plain(Request::Propose(turn, _) | Request::Pass(turn)) => turn.pass(),
+        FullRequest::Plain(Request::Open | Request::Tick(_) | Request::Hear(_)) => {}
         FullRequest::OpenWith(_, _) => {}
     }
 }
@@ -51,7 +49,7 @@ impl Pit {
 
     // How many consoles make a quorum.
     pub fn quorum(&self) -> u8
-        ensures { result ≡ self.now.n - (self.now.n - 1) / 3 }
+        ensures { result ≡ self.now.n - spare self.now.n }
     {
         quorum_of(self.n)
     }

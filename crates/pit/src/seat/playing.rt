@@ -45,13 +45,11 @@ impl Seat {
     {
         match reply {
             Reply::Ticked(Ok(Ticked::Turn(turn))) => self.hold(turn),
+            // Stays: an arm for each, since one pattern for all three would let a tick go, in which a turn may be.
             Reply::Ticked(Ok(Ticked::Vote(_, _))) => {}
             Reply::Ticked(Ok(Ticked::Nothing)) => {}
             Reply::Ticked(Err(_)) => {}
-            Reply::Opened => {}
-            Reply::Proposed(_) => {}
-            Reply::Passed => {}
-            Reply::Heard(_) => {}
+            Reply::Opened | Reply::Proposed(_) | Reply::Passed | Reply::Heard(_) => {}
         }
     }
 
