@@ -1,8 +1,11 @@
 -- Orders read one after another.
-use Rattle.std.proofs.Common.{◌≡◌, ℕ, zero, suc, ◌+◌, ◌-◌, ◌*◌, ◌<◌, ◌≤◌, cond, ltb, List, ◌++◌, length, get_or, take, drop, replicate, sym, refl, ap, ◌∙◌, ⊎_elim, arith}
+use Rattle.std.proofs.Common.{◌≡◌, ℕ, zero, suc, ◌+◌, ◌-◌, ◌*◌, ◌/◌, ◌<◌, ◌≤◌, cond, ltb, List, [], Option, None, Some, MatchOption, ◌++◌, length, get_or, take, drop, replicate, sym, refl, ap, ◌∙◌, ⊎_elim, arith}
 use Rattle.std.proofs.lemmas.Bool.{cases_lt, lt-ltb, le-ltb}
-use Rattle.std.proofs.lemmas.List.{drop-drop, length-append, length-replicate, get_or_append_left, get_or-append_right, get_or-replicate}
+use Rattle.std.proofs.lemmas.List.{drop-drop, drop-take, take-take, length-append, length-take, length-replicate, get_or_append_left, get_or-append_right, get_or-replicate}
 use Rattle.std.proofs.lemmas.List.FromFn.{fill_by_all}
+use Rattle.std.specs.Simd.{first_chunks}
+use Rattle.std.specs.Slice.{IsItemAt}
+use denote.Ref.{Bor}
 use Rattle.wire.specs.Bytes.{field}
 use Rattle.wire.specs.declared.order.Order.{Order}
 use Rattle.wire.specs.declared.orders.Orders.{Orders}
@@ -27,6 +30,36 @@ order_at (suc k) bs (suc i) d h =
 -- what stands at place i of a list with k orders
 abbrev pub placed : ℕ → List ℕ → ℕ → Order
 placed k bs i = cond (ltb i k) (order_in (field (8 * i) 8 bs)) blank
+
+-- a part of the bytes cut into eights
+part_at : (k : ℕ) (bs : List ℕ) (i : ℕ) → i < k → get_or (first_chunks 8 k (take (8 * k) bs)) i [] ≡ field (8 * i) 8 bs
+part_at zero bs i h = absurd (omega arith)
+part_at (suc k) bs zero h = take-take 8 (8 * suc k) bs (omega arith)
+part_at (suc k) bs (suc i) h =
+    let whole : 8 * suc k ≡ 8 + 8 * k = omega arith in
+    let place : 8 + 8 * i ≡ 8 * suc i = omega arith in
+    ap (λ (j : ℕ). get_or (first_chunks 8 k (drop 8 (take j bs))) i []) whole ∙
+    (ap (λ (l : List ℕ). get_or (first_chunks 8 k l) i []) (drop-take 8 (8 * k) bs) ∙
+    (part_at k (drop 8 bs) i (omega arith) ∙
+    ap (take 8) (drop-drop (8 * i) 8 bs ∙ ap (λ (j : ℕ). drop j bs) place)))
+
+-- the part at place i, read as an order, if there is one, and else the blank
+pub placed_is :
+    (k : ℕ) (bs : List ℕ) → 8 * k ≤ length bs →
+    (parts : List (List ℕ)) → parts ≡ first_chunks 8 (length (take (8 * k) bs) / 8) (take (8 * k) bs) → length parts ≡ length (take (8 * k) bs) / 8 →
+    (i : ℕ) (o : Option (Bor (List ℕ))) (x : Order) → IsItemAt parts i o → MatchOption o (x ≡ blank) (λ p. x ≡ order_in p.now) → x ≡ placed k bs i
+placed_is k bs room parts cut long i None x is e =
+    let n : length (take (8 * k) bs) / 8 ≡ k = omega (arith, length-take {A = ℕ}) in
+    let out : k ≤ i = let l : length parts ≤ i = is.3 in omega arith in
+    e ∙ rw le-ltb
+placed_is k bs room parts cut long i (Some p) x is e =
+    let n : length (take (8 * k) bs) / 8 ≡ k = omega (arith, length-take {A = ℕ}) in
+    let inside : i < k = let l : i < length parts = is.3.0 in omega arith in
+    let here : p.now ≡ get_or parts i [] = is.3.1 [] in
+    let first : parts ≡ first_chunks 8 k (take (8 * k) bs) = cc in
+    let part = part_at k bs i inside in
+    let same : p.now ≡ field (8 * i) 8 bs = cc in
+    e ∙ (ap order_in same ∙ rw lt-ltb)
 
 pub packed_orders : (k : ℕ) (bs : List ℕ) (os : Orders) → k ≤ 8 → length os.list ≡ 8 → ((i : ℕ) → i < 8 → get_or os.list i blank ≡ placed k bs i) → os.count ≡ k → os ≡ pack (orders_in k bs)
 packed_orders k bs os few eight each count =

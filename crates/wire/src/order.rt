@@ -1,4 +1,4 @@
-ghost use Rattle.std.specs.Prelude.{◌≡◌, ◌+◌, ◌≤◌, ◌++◌, length};
+ghost use Rattle.std.specs.Prelude.{◌≡◌, ◌+◌, ◌≤◌, ◌++◌};
 ghost use Rattle.wire.specs.Bytes.{be};
 ghost use Rattle.wire.specs.Format.{order_bytes, place_stands, well_formed};
 ghost use Rattle.wire.specs.Read.{fields_in, order_in, order_of};
@@ -29,8 +29,7 @@ struct Fields {
 
 impl Fields {
     // What stands in these eight bytes.
-    fn read(bytes: &[u8]) -> Fields
-        requires { length bytes.now ≡ 8 }
+    fn read(bytes: &[u8; 8]) -> Fields
         ensures { result ≡ fields_in bytes.now }
     {
         Fields {
@@ -134,8 +133,7 @@ impl Order {
     }
 
     // The order in these eight bytes, or `BLANK`.
-    pub(crate) fn read(bytes: &[u8]) -> Order
-        requires { length bytes.now ≡ 8 }
+    pub(crate) fn read(bytes: &[u8; 8]) -> Order
         ensures { result ≡ order_in bytes.now }
     {
         Fields::read(bytes).order()

@@ -48,13 +48,8 @@ impl Orders {
         requires enough { 8 * count ≤ length bytes.now }
         ensures { result ≡ pack (orders_in count bytes.now) }
     {
-        let list = from_fn(|i| {
-            if i < count {
-                Order::read(&bytes[8 * i..8 * i + 8])
-            } else {
-                Order::BLANK
-            }
-        });
+        let (parts, _) = bytes[..8 * count].as_chunks::<8>();
+        let list = from_fn(|i| parts.get(i).map_or(Order::BLANK, Order::read));
         Orders {
             list,
             count: count as u8,
