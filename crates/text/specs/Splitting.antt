@@ -1,8 +1,10 @@
 -- A line as fields that are separated by single spaces.
 use Rattle.std.specs.Prelude.{◌≡◌, ℕ, ◌<◌, Bool, true, false, cond, List, [], ◌∷◌, ◌++◌, length, Some, None, Option, ◌==◌, ◌≢◌}
 use Rattle.std.specs.List.{AllByRecursion}
+use Rattle.std.specs.Option.{option_map}
 use Rattle.text.specs.declared.fields.FieldError.{FieldError}
 use Rattle.text.specs.declared.fields.FieldError.TheVariants.{Missing, Empty, TooMany}
+use Rattle.text.specs.declared.fields.Fields.{Fields}
 
 -- a byte put in front of the first field
 abbrev pub led : ℕ → List (List ℕ) → List (List ℕ)
@@ -31,6 +33,10 @@ SplitLaw = (line : List ℕ) → (joined (split line) ≡ line) × AllByRecursio
 abbrev pub left : Option (List ℕ) → List (List ℕ)
 left None = []
 left (Some rest) = split rest
+
+-- the fields that a reader has before it
+abbrev pub fields_left : Fields → List (List ℕ)
+fields_left reader = left (option_map (λ x. x.now) reader.rest)
 
 abbrev pub none_left : List (List ℕ) → Bool
 none_left [] = true

@@ -1,9 +1,7 @@
 // The fields of a line, one after another.
-ghost use Rattle.std.specs.Prelude.{◌≡◌, ℕ, List, [], ◌∷◌, ◌<◌, ◌≢◌, length, slice_index, MatchOption, MatchResult};
+ghost use Rattle.std.specs.Prelude.{◌≡◌, ℕ, [], ◌∷◌, ◌<◌, ◌≢◌, length, slice_index, MatchOption, MatchResult};
 ghost use Rattle.std.specs.Option.{option_map};
-ghost use Rattle.text.specs.Splitting.{split, left, none_left, Took, TookNone, Leaves, SplitLaw};
-
-use std::marker::Model;
+ghost use Rattle.text.specs.Splitting.{split, left, fields_left, none_left, Took, TookNone, Leaves, SplitLaw};
 
 // Why a line gives no field.
 #[derive(Clone, Copy, PartialEq, Eq, Debug)]
@@ -13,16 +11,10 @@ pub enum FieldError {
     TooMany,
 }
 
-// What is left of a line; nothing once its last field is taken. Contracts see the fields that are left.
-#[derive(Clone, Drop)]
+// What is left of a line; nothing once its last field is taken.
+#[derive(Clone, Copy)]
 pub struct Fields<'a> {
     rest: Option<&'a [u8]>,
-}
-
-impl<'a> Model for Fields<'a> {
-    ghost Value = { List (List ℕ) };
-
-    ghost view = { λ f. left (option_map (λ x. x.now) f.rest) };
 }
 
 // The place of the first space, if there is one.
@@ -45,14 +37,14 @@ fn cut(line: &[u8]) -> (&[u8], Option<&[u8]>)
 impl<'a> Fields<'a> {
     // All the fields of a line.
     pub fn of(line: &'a [u8]) -> Fields<'a>
-        ensures { result ≡ split line.now }
+        ensures { fields_left result ≡ split line.now }
     {
         Fields { rest: Some(line) }
     }
 
     // Takes the next field, which may not be empty.
     pub fn next(&mut self) -> Result<&'a [u8], FieldError>
-        ensures { MatchResult result (λ f. Took self.old f.now self.new) (TookNone self.old self.new) }
+        ensures { MatchResult result (λ f. Took (fields_left self.old) f.now (fields_left self.new)) (TookNone (fields_left self.old) (fields_left self.new)) }
     {
         let (field, rest) = cut(self.rest.ok_or(FieldError::Missing)?);
         self.rest = rest;
@@ -65,7 +57,7 @@ impl<'a> Fields<'a> {
 
     // Whether every field is taken.
     pub fn is_empty(&self) -> bool
-        ensures { result ≡ none_left self.now }
+        ensures { result ≡ none_left (fields_left self.now) }
     {
         self.rest.is_none()
     }
@@ -73,7 +65,7 @@ impl<'a> Fields<'a> {
     // Whether every field is taken, as an error if one is left.
     // Stays: of the three outcomes only one is handed on, so that `?` would not say it.
     pub fn end(mut self) -> Result<(), FieldError>
-        ensures { MatchResult result (λ _. self.entry ≡ []) (Leaves self.entry) }
+        ensures { MatchResult result (λ _. fields_left self.entry ≡ []) (Leaves (fields_left self.entry)) }
     {
         match self.next() {
             Ok(_) => Err(FieldError::TooMany),
