@@ -1,6 +1,6 @@
 // The reading of a line that is neither blank nor a comment: its first field says of what kind it is.
 ghost use Rattle.std.specs.Prelude.{◌≡◌};
-ghost use Rattle.text.specs.Splitting.{split};
+ghost use Rattle.text.specs.Splitting.{split, fields_left};
 ghost use Rattle.script.specs.Commands.{Reads};
 ghost use Rattle.commands.specs.Commands.{Says, SaysOfPit, SaysOfConsole, SaysMore, is_plain_word, is_console_word};
 
@@ -16,7 +16,7 @@ use text::fields::Fields;
 // A line that names a console and nothing more.
 // Stays: word and fields are one line taken apart, and only the reader of the word needs both.
 fn console_line<'a>(word: &'a [u8], fields: Fields<'a>) -> Result<PitCommand, Fault<'a>>
-    ensures { Reads (SaysOfConsole word.now fields.entry) result }
+    ensures { Reads (SaysOfConsole word.now (fields_left fields.entry)) result }
 {
     match word {
         b"pass" => Ok(PitCommand::Pass {
@@ -54,7 +54,7 @@ fn longer_line<'a>(
     word: &'a [u8],
     fields: Fields<'a>,
 ) -> Result<PitCommand, Fault<'a>>
-    ensures { Reads (SaysMore word.now fields.entry) result }
+    ensures { Reads (SaysMore word.now (fields_left fields.entry)) result }
 {
     match word {
         b"pit" => read_pit(fields),
@@ -70,7 +70,7 @@ fn longer_line<'a>(
 
 // A line of a pit.
 fn pit_line<'a>(alloc: Global, word: &'a [u8], fields: Fields<'a>) -> Result<PitCommand, Fault<'a>>
-    ensures { Reads (SaysOfPit word.now fields.entry) result }
+    ensures { Reads (SaysOfPit word.now (fields_left fields.entry)) result }
 {
     if is_of_console(word) {
         console_line(word, fields)

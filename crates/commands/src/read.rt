@@ -1,4 +1,5 @@
 // The fields after the word of each kind of line.
+ghost use Rattle.text.specs.Splitting.{fields_left};
 ghost use Rattle.script.specs.Arguments.{Takes};
 ghost use Rattle.script.specs.Commands.{Reads};
 ghost use Rattle.commands.specs.Commands.{HasSeals, PitArguments, KeyArguments, OpenArguments, TickArguments, ProposeArguments, HearArguments, ShelfArguments, OnlyConsole};
@@ -13,7 +14,7 @@ use text::fields::Fields;
 
 // Takes the word for a kind of seals.
 fn seal_kind<'a>(fields: &mut Fields<'a>) -> Result<SealKind, Fault<'a>>
-    ensures { Takes HasSeals fields.old result fields.new }
+    ensures { Takes HasSeals (fields_left fields.old) result (fields_left fields.new) }
 {
     match fields.next()? {
         b"stamp" => Ok(SealKind::Stamp),
@@ -23,7 +24,7 @@ fn seal_kind<'a>(fields: &mut Fields<'a>) -> Result<SealKind, Fault<'a>>
 }
 
 pub(crate) fn read_pit<'a>(mut fields: Fields<'a>) -> Result<PitCommand, Fault<'a>>
-    ensures { Reads (PitArguments fields.entry) result }
+    ensures { Reads (PitArguments (fields_left fields.entry)) result }
 {
     let n = number(&mut fields, u32::MAX)?;
     let seals = seal_kind(&mut fields)?;
@@ -32,7 +33,7 @@ pub(crate) fn read_pit<'a>(mut fields: Fields<'a>) -> Result<PitCommand, Fault<'
 }
 
 pub(crate) fn read_key<'a>(alloc: Global, mut fields: Fields<'a>) -> Result<PitCommand, Fault<'a>>
-    ensures { Reads (KeyArguments fields.entry) result }
+    ensures { Reads (KeyArguments (fields_left fields.entry)) result }
 {
     let console = number::<u8>(&mut fields, 15)?;
     let key = key(alloc, &mut fields)?;
@@ -41,7 +42,7 @@ pub(crate) fn read_key<'a>(alloc: Global, mut fields: Fields<'a>) -> Result<PitC
 }
 
 pub(crate) fn read_open<'a>(mut fields: Fields<'a>) -> Result<PitCommand, Fault<'a>>
-    ensures { Reads (OpenArguments fields.entry) result }
+    ensures { Reads (OpenArguments (fields_left fields.entry)) result }
 {
     let console = number(&mut fields, u8::MAX)?;
     let slots = number::<u16>(&mut fields, 300)?;
@@ -55,7 +56,7 @@ pub(crate) fn read_open<'a>(mut fields: Fields<'a>) -> Result<PitCommand, Fault<
 }
 
 pub(crate) fn read_tick<'a>(mut fields: Fields<'a>) -> Result<PitCommand, Fault<'a>>
-    ensures { Reads (TickArguments fields.entry) result }
+    ensures { Reads (TickArguments (fields_left fields.entry)) result }
 {
     let console = number(&mut fields, u8::MAX)?;
     let t = number(&mut fields, u32::MAX)?;
@@ -67,7 +68,7 @@ pub(crate) fn read_propose<'a>(
     alloc: Global,
     mut fields: Fields<'a>,
 ) -> Result<PitCommand, Fault<'a>>
-    ensures { Reads (ProposeArguments fields.entry) result }
+    ensures { Reads (ProposeArguments (fields_left fields.entry)) result }
 {
     let console = number(&mut fields, u8::MAX)?;
     let turn = number(&mut fields, u8::MAX)?;
@@ -82,7 +83,7 @@ pub(crate) fn read_propose<'a>(
 }
 
 pub(crate) fn read_hear<'a>(alloc: Global, mut fields: Fields<'a>) -> Result<PitCommand, Fault<'a>>
-    ensures { Reads (HearArguments fields.entry) result }
+    ensures { Reads (HearArguments (fields_left fields.entry)) result }
 {
     let console = number(&mut fields, u8::MAX)?;
     let bytes = bytes(alloc, &mut fields)?;
@@ -91,7 +92,7 @@ pub(crate) fn read_hear<'a>(alloc: Global, mut fields: Fields<'a>) -> Result<Pit
 }
 
 pub(crate) fn read_shelf<'a>(mut fields: Fields<'a>) -> Result<PitCommand, Fault<'a>>
-    ensures { Reads (ShelfArguments fields.entry) result }
+    ensures { Reads (ShelfArguments (fields_left fields.entry)) result }
 {
     let console = number(&mut fields, u8::MAX)?;
     let slots = number::<u16>(&mut fields, 300)?;
@@ -101,7 +102,7 @@ pub(crate) fn read_shelf<'a>(mut fields: Fields<'a>) -> Result<PitCommand, Fault
 
 // A line that names a console and nothing more.
 pub(crate) fn only_console<'a>(mut fields: Fields<'a>) -> Result<u8, Fault<'a>>
-    ensures { Reads (OnlyConsole fields.entry) result }
+    ensures { Reads (OnlyConsole (fields_left fields.entry)) result }
 {
     let i = number(&mut fields, u8::MAX)?;
     fields.end()?;

@@ -3,7 +3,7 @@ use Rattle.std.proofs.Common.{◌≡◌, ℕ, List, [], ◌∷◌, IsErrAnd, Ok,
 use Rattle.text.specs.Splitting.{Leaves}
 use Rattle.text.specs.declared.fields.FieldError.{FieldError}
 use Rattle.text.specs.declared.fields.FieldError.TheVariants.{Missing, Empty, TooMany}
-use Rattle.script.specs.Arguments.{HasBytes, Possible, Then}
+use Rattle.script.specs.Arguments.{HasBytes, HasNumber, Possible, Then}
 use Rattle.script.specs.Faults.{Refutes}
 use Rattle.script.specs.declared.fault.Fault.{Fault}
 
@@ -18,6 +18,9 @@ pub record Single {A : Type 0} (Has : List (List ℕ) → A → List (List ℕ) 
 
 same_tail : {f g : List ℕ} {before after rest : List (List ℕ)} → before ≡ f ∷ after → before ≡ g ∷ rest → rest ≡ after
 same_tail a b = cc
+
+pub single_number : {highest : ℕ} → Single (HasNumber highest)
+single_number = record { same = λ before a b after rest x y. same_tail x.first y.first }
 
 pub single_bytes : Single HasBytes
 single_bytes = record { same = λ before a b after rest x y. same_tail x.1 y.1 }

@@ -1,6 +1,6 @@
 // The commands of a sheet, and the reading of a line.
 ghost use Rattle.std.specs.Prelude.{◌∷◌};
-ghost use Rattle.text.specs.Splitting.{split};
+ghost use Rattle.text.specs.Splitting.{split, fields_left};
 ghost use Rattle.script.specs.Arguments.{Takes};
 ghost use Rattle.script.specs.Boards.{HasAssignment, HasBoard};
 ghost use Rattle.script.specs.Commands.{NameArguments, MacArguments, ReadArguments, TryArguments, Says, Reads};
@@ -32,7 +32,7 @@ pub enum NewBoard {
 
 // Stays: the allocator goes to the readers that ask for memory; a field of it would be asked of all.
 fn read_name<'a>(alloc: Global, mut fields: Fields<'a>) -> Result<Command, Fault<'a>>
-    ensures { Reads (NameArguments fields.entry) result }
+    ensures { Reads (NameArguments (fields_left fields.entry)) result }
 {
     let bytes = arguments::bytes(alloc, &mut fields)?;
     fields.end()?;
@@ -40,7 +40,7 @@ fn read_name<'a>(alloc: Global, mut fields: Fields<'a>) -> Result<Command, Fault
 }
 
 fn read_mac<'a>(alloc: Global, mut fields: Fields<'a>) -> Result<Command, Fault<'a>>
-    ensures { Reads (MacArguments fields.entry) result }
+    ensures { Reads (MacArguments (fields_left fields.entry)) result }
 {
     let key = arguments::key(alloc, &mut fields)?;
     let bytes = arguments::bytes(alloc, &mut fields)?;
@@ -49,7 +49,7 @@ fn read_mac<'a>(alloc: Global, mut fields: Fields<'a>) -> Result<Command, Fault<
 }
 
 fn read_read<'a>(alloc: Global, mut fields: Fields<'a>) -> Result<Command, Fault<'a>>
-    ensures { Reads (ReadArguments fields.entry) result }
+    ensures { Reads (ReadArguments (fields_left fields.entry)) result }
 {
     let n = arguments::consoles(&mut fields)?;
     let bytes = arguments::bytes(alloc, &mut fields)?;
@@ -58,7 +58,7 @@ fn read_read<'a>(alloc: Global, mut fields: Fields<'a>) -> Result<Command, Fault
 }
 
 fn assignment<'a>(fields: &mut Fields<'a>) -> Result<NewBoard, Fault<'a>>
-    ensures { Takes HasAssignment fields.old result fields.new }
+    ensures { Takes HasAssignment (fields_left fields.old) result (fields_left fields.new) }
 {
     let lines = arguments::short(fields)?;
     let limit = arguments::short(fields)?;
@@ -67,7 +67,7 @@ fn assignment<'a>(fields: &mut Fields<'a>) -> Result<NewBoard, Fault<'a>>
 
 // Takes the board that a line names.
 pub fn new_board<'a>(fields: &mut Fields<'a>) -> Result<NewBoard, Fault<'a>>
-    ensures { Takes HasBoard fields.old result fields.new }
+    ensures { Takes HasBoard (fields_left fields.old) result (fields_left fields.new) }
 {
     match fields.next()? {
         b"assignment" => assignment(fields),
@@ -77,7 +77,7 @@ pub fn new_board<'a>(fields: &mut Fields<'a>) -> Result<NewBoard, Fault<'a>>
 }
 
 fn read_try<'a>(alloc: Global, mut fields: Fields<'a>) -> Result<Command, Fault<'a>>
-    ensures { Reads (TryArguments fields.entry) result }
+    ensures { Reads (TryArguments (fields_left fields.entry)) result }
 {
     let board = new_board(&mut fields)?;
     let orders = orders(alloc, fields)?;
@@ -99,7 +99,7 @@ pub fn parse_fields<'a>(
     word: &'a [u8],
     fields: Fields<'a>,
 ) -> Result<Command, Fault<'a>>
-    ensures { Reads (Says (word.now ∷ fields.entry)) result }
+    ensures { Reads (Says (word.now ∷ fields_left fields.entry)) result }
 {
     match word {
         b"name" => read_name(alloc, fields),

@@ -1,6 +1,7 @@
 // The orders at the end of a line.
 ghost use Rattle.std.specs.Prelude.{List, MatchResult};
 ghost use Rattle.wire.specs.declared.order.Order.{Order};
+ghost use Rattle.text.specs.Splitting.{fields_left};
 ghost use Rattle.script.specs.Arguments.{Takes};
 ghost use Rattle.script.specs.Faults.{Refutes};
 ghost use Rattle.script.specs.OrderFields.{HasLast, HasSend, HasRelease, HasLoad, HasOrder, HasOrders};
@@ -14,7 +15,7 @@ use wire::order::Order;
 
 // Takes an order's last number.
 fn last<'a>(fields: &mut Fields<'a>) -> Result<Marked<u16>, Fault<'a>>
-    ensures { Takes HasLast fields.old result fields.new }
+    ensures { Takes HasLast (fields_left fields.old) result (fields_left fields.new) }
 {
     let field = fields.next()?;
     let cut = field.strip_suffix(b",");
@@ -24,7 +25,7 @@ fn last<'a>(fields: &mut Fields<'a>) -> Result<Marked<u16>, Fault<'a>>
 }
 
 fn send<'a>(fields: &mut Fields<'a>) -> Result<Marked<Order>, Fault<'a>>
-    ensures { Takes HasSend fields.old result fields.new }
+    ensures { Takes HasSend (fields_left fields.old) result (fields_left fields.new) }
 {
     let truck = short(fields)?;
     let place = last(fields)?;
@@ -37,7 +38,7 @@ fn send<'a>(fields: &mut Fields<'a>) -> Result<Marked<Order>, Fault<'a>>
 }
 
 fn release<'a>(fields: &mut Fields<'a>) -> Result<Marked<Order>, Fault<'a>>
-    ensures { Takes HasRelease fields.old result fields.new }
+    ensures { Takes HasRelease (fields_left fields.old) result (fields_left fields.new) }
 {
     let truck = last(fields)?;
     let value = Order::Release { truck: truck.value };
@@ -46,7 +47,7 @@ fn release<'a>(fields: &mut Fields<'a>) -> Result<Marked<Order>, Fault<'a>>
 }
 
 fn load<'a>(fields: &mut Fields<'a>) -> Result<Marked<Order>, Fault<'a>>
-    ensures { Takes HasLoad fields.old result fields.new }
+    ensures { Takes HasLoad (fields_left fields.old) result (fields_left fields.new) }
 {
     let truck = short(fields)?;
     let place = short(fields)?;
@@ -62,7 +63,7 @@ fn load<'a>(fields: &mut Fields<'a>) -> Result<Marked<Order>, Fault<'a>>
 
 // Takes an order.
 fn order<'a>(fields: &mut Fields<'a>) -> Result<Marked<Order>, Fault<'a>>
-    ensures { Takes HasOrder fields.old result fields.new }
+    ensures { Takes HasOrder (fields_left fields.old) result (fields_left fields.new) }
 {
     match fields.next()? {
         b"SD" => send(fields),
@@ -74,7 +75,7 @@ fn order<'a>(fields: &mut Fields<'a>) -> Result<Marked<Order>, Fault<'a>>
 
 // Takes the orders up to the end of the line.
 pub fn orders<'a>(alloc: Global, mut fields: Fields<'a>) -> Result<Vec<Order>, Fault<'a>>
-    ensures { MatchResult result (λ v. HasOrders fields.entry v.items) (λ e. Refutes e ((os : List Order) × HasOrders fields.entry os)) }
+    ensures { MatchResult result (λ v. HasOrders (fields_left fields.entry) v.items) (λ e. Refutes e ((os : List Order) × HasOrders (fields_left fields.entry) os)) }
 {
     let mut orders = Vec::new(alloc);
     let mut more = !fields.is_empty();
