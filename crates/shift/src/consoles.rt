@@ -24,6 +24,7 @@ fn size(n: u32) -> Result<u8, Refusal> {
 }
 
 // A new pit, unless it is refused.
+// Stays: a new pit asks for memory as its words are added, which nothing that is shown does.
 pub(crate) fn pit(
     text: &mut String,
     alloc: Global,
@@ -59,6 +60,7 @@ fn made(alloc: Global, board: NewBoard) -> Result<EitherBoard, AllocError> {
 
 // What a line of a pit is played on: the pit that stands, and the text that its answer is added to.
 #[derive(Drop)]
+// Stays: each line of a pit adds to the text as the pit changes, which nothing that is shown does.
 pub(crate) struct Lines<'a> {
     pub(crate) pit: &'a mut Pit,
     pub(crate) text: &'a mut String,

@@ -54,6 +54,7 @@ impl fmt::Display for ReadLine<'_> {
 }
 
 // Adds the line of what a new board makes of the orders.
+// Stays: a new board asks for memory as its words are added, which nothing that is shown does.
 pub fn write_try(
     text: &mut String,
     alloc: Global,

@@ -74,6 +74,7 @@ impl fmt::Display for PlaceLoads<'_> {
 fn write_places<W: fmt::Write>(f: &mut fmt::Formatter<W>, board: &Tonnage) -> fmt::Result
     ensures { WritesOnOk W.write_str_gives f.old result (places_up_to 64 board.now.places) f.new }
 {
+    // Stays: the places' numbers, which are shown.
     for number in 1..65u16 {
         write!(f, "{}", PlaceLoads { board, number })?;
     }

@@ -43,6 +43,7 @@ fn write_signer<W: fmt::Write>(
 fn write_each_signer<W: fmt::Write>(f: &mut fmt::Formatter<W>, signers: &Signers) -> fmt::Result
     ensures { WritesOnOk W.write_str_gives f.old result (led (codes " ") (map decimal (consoles signers.now.set))) f.new }
 {
+    // Stays: the consoles' numbers, which are shown.
     for console in 0..16u8 {
         write_signer(f, signers, console)?;
     }

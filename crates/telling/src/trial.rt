@@ -31,6 +31,7 @@ impl fmt::Display for Effect {
 }
 
 // The board takes the orders; whether each had an effect is added to the text.
+// Stays: this and what follows add to a text while a board changes or memory is asked for, which nothing that is shown does.
 fn take_each<B: Board>(text: &mut String, board: &mut B, orders: &[Order]) -> Result<(), AllocError>
     ensures effects { Adds text.old result (effects_told B.Board.rule B.Board.effect (B.Board.world board.old) orders.now) text.new }
     ensures board { OnOk result (B.Board.world board.new ≡ fed B.Board.rule (B.Board.world board.old) orders.now) }

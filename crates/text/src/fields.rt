@@ -12,6 +12,7 @@ pub enum FieldError {
 }
 
 // What is left of a line; nothing once its last field is taken.
+// Stays: `fields_left` in the contracts and no model, since a type with a model and a lifetime cannot be `Copy`.
 #[derive(Clone, Copy)]
 pub struct Fields<'a> {
     rest: Option<&'a [u8]>,

@@ -42,6 +42,7 @@ pub fn read_number(field: &[u8], highest: u64) -> Result<u64, NumberError>
 }
 
 // Adds the digits of n to the text, with no leading zero.
+// Stays: hosts call it; its one line is the library's.
 pub fn write_number(text: &mut String, n: u64) -> Result<(), AllocError>
     ensures { OnOk result (string_bytes text.new ≡ string_bytes text.old ++ decimal n) }
 {

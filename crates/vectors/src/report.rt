@@ -15,6 +15,7 @@ pub fn shown(alloc: Global, came: &[u8; 32]) -> Result<String, AllocError>
     format!(in alloc; "{}", Hex(came))
 }
 
+// Stays: `right` is the answer itself and picks no kind.
 fn line(rt: &HostRuntime, name: &str, shown: &str, right: bool) -> io::Result<()> {
     let verdict = if right { "ok" } else { "WRONG" };
     println!(rt; "{name}: {shown} {verdict}")

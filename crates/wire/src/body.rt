@@ -93,6 +93,7 @@ impl Body {
     }
 
     // The body in these bytes, which are as many as its number of orders gives.
+    // Stays: `From` could not ask that the bytes are as many as their count says.
     pub(crate) fn read(bytes: &[u8]) -> Body
         requires few { number 42 1 bytes.now ≤ 8 }
         requires whole { length bytes.now ≡ body_length bytes.now }

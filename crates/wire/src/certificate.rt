@@ -64,6 +64,7 @@ fn put_seals(out: &mut Writer<'_>, set: u16, seals: &[[u8; 16]])
 }
 
 // The seals of the signers, each at its signer's number, from where they stand by rising number.
+// Stays: the place of the next seal moves on at a signer alone, so that a chain over the seals would carry it all the same.
 fn seals_in(set: u16, bytes: &[u8]) -> [[u8; 16]; 16]
     requires { 16 * count_ones set ≤ length bytes.now }
     ensures { result ≡ seals_in set bytes.now }
@@ -146,6 +147,7 @@ impl Certificate {
     }
 
     // The certificate in these bytes, which are as many as its number of signers gives.
+    // Stays: `From` could not ask that the bytes are as many as their signers need.
     pub(crate) fn read(bytes: &[u8]) -> Certificate
         requires { length bytes.now ≡ certificate_length bytes.now }
         ensures { result ≡ certificate_in bytes.now }

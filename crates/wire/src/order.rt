@@ -133,6 +133,7 @@ impl Order {
     }
 
     // The order in these eight bytes, or `BLANK`.
+    // Stays: a `From` would offer to every caller that any bytes are an order.
     pub(crate) fn read(bytes: &[u8; 8]) -> Order
         ensures { result ≡ order_in bytes.now }
     {

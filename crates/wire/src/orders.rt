@@ -43,6 +43,7 @@ impl Orders {
     }
 
     // The `count` orders in these bytes, one after another.
+    // Stays: `From` takes no count beside the bytes.
     pub(crate) fn read(bytes: &[u8], count: usize) -> Orders
         requires few { count ≤ 8 }
         requires enough { 8 * count ≤ length bytes.now }

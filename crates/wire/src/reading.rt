@@ -195,6 +195,7 @@ fn read_vote(n: u8, bytes: &[u8]) -> Result<Reading<'_>, Unreadable>
 }
 
 // The message in a datagram, in a pit of n consoles, or the first ground to refuse it.
+// Stays: `TryFrom` takes no number of consoles beside the bytes.
 pub fn read(n: u8, datagram: &[u8]) -> Result<Reading<'_>, Unreadable>
     ensures message { outcome result ≡ read n datagram.now }
     ensures parts { Parted (drop 2 datagram.now) result }

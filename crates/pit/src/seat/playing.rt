@@ -54,6 +54,7 @@ impl Seat {
     }
 
     // Enters one line and adds its answer to the text; a turn that it answers is held.
+    // Stays: the seat changes as the words are added, which nothing that is shown does.
     pub fn play(
         &mut self,
         text: &mut String,
