@@ -11,6 +11,7 @@ use Rattle.wire.specs.declared.order.Order.{Order}
 use Rattle.wire.specs.declared.orders.Orders.{Orders}
 use Rattle.wire.specs.Format.{blank, pack}
 use Rattle.wire.specs.Read.{order_in, orders_in}
+use Rattle.wire.proofs.Filling.{chunk_at}
 
 pub length-orders_in : (k : ℕ) (bs : List ℕ) → length (orders_in k bs) ≡ k
 unfolding orders_in
@@ -33,15 +34,12 @@ placed k bs i = cond (ltb i k) (order_in (field (8 * i) 8 bs)) blank
 
 -- a part of the bytes cut into eights
 part_at : (k : ℕ) (bs : List ℕ) (i : ℕ) → i < k → get_or (first_chunks 8 k (take (8 * k) bs)) i [] ≡ field (8 * i) 8 bs
-part_at zero bs i h = absurd (omega arith)
-part_at (suc k) bs zero h = take-take 8 (8 * suc k) bs (omega arith)
-part_at (suc k) bs (suc i) h =
-    let whole : 8 * suc k ≡ 8 + 8 * k = omega arith in
-    let place : 8 + 8 * i ≡ 8 * suc i = omega arith in
-    ap (λ (j : ℕ). get_or (first_chunks 8 k (drop 8 (take j bs))) i []) whole ∙
-    (ap (λ (l : List ℕ). get_or (first_chunks 8 k l) i []) (drop-take 8 (8 * k) bs) ∙
-    (part_at k (drop 8 bs) i (omega arith) ∙
-    ap (take 8) (drop-drop (8 * i) 8 bs ∙ ap (λ (j : ℕ). drop j bs) place)))
+part_at k bs i h =
+    let m : 8 * i + (8 * k - 8 * i) ≡ 8 * k = omega arith in
+    let at = chunk_at 8 k i (take (8 * k) bs) h in
+    let cut = drop-take (8 * i) (8 * k - 8 * i) bs in
+    let short = take-take 8 (8 * k - 8 * i) (drop (8 * i) bs) (omega arith) in
+    cc
 
 -- the part at place i, read as an order, if there is one, and else the blank
 pub placed_is :

@@ -1,5 +1,5 @@
 -- Signers by their bits.
-use Rattle.std.proofs.Common.{◌≡◌, ℕ, zero, suc, ◌+◌, ◌-◌, ◌*◌, ◌/◌, ◌%◌, ◌^◌, ◌<◌, ◌≤◌, true, false, eqb, ltb, List, [], ◌∷◌, ◌++◌, map, length, get_or, set as set_at_place, replicate, sym, refl, ap, ◌∙◌, subst, le_refl, add-zero, add-suc, mod-lt, mod-eq_of_lt, add-sub_of_le, mul-zero, add-one, one-add, arith, lit<, pow_pos, pow_mono, eqb-true}
+use Rattle.std.proofs.Common.{◌≡◌, ℕ, zero, suc, ◌+◌, ◌-◌, ◌*◌, ◌/◌, ◌%◌, ◌^◌, ◌<◌, ◌≤◌, true, false, eqb, ltb, List, [], ◌∷◌, ◌++◌, map, length, get_or, drop, set as set_at_place, replicate, sym, refl, ap, ◌∙◌, subst, le_refl, add-zero, add-suc, mod-lt, mod-eq_of_lt, add-sub_of_le, mul-zero, add-one, one-add, arith, lit<, pow_pos, pow_mono, eqb-true}
 use native.Mathlib.Nat.{div-eq_of_lt, mod-add-div, mod-one}
 use borrow.Author.Tests.{eqb-false}
 use lib.Count.{ones, ones_in, ones_cat}
@@ -7,9 +7,10 @@ use Rattle.std.proofs.lemmas.List.FromFn.{map-range_with_len_more, length-map-ra
 use Rattle.std.specs.List.{range_with_len}
 use Rattle.wire.specs.Bytes.{field}
 use Rattle.wire.specs.Read.{seal_in}
-use Rattle.wire.proofs.Filling.{fill_more, leave_more}
+use Rattle.wire.proofs.Filling.{chunk_at, fill_more, leave_more, length-first_chunks}
+use Rattle.std.specs.Simd.{first_chunks}
 use lib.Pow.{mod-pow-add}
-use Rattle.std.proofs.lemmas.List.{length-append, append-nil}
+use Rattle.std.proofs.lemmas.List.{length-append, append-nil, drop_more}
 use Rattle.std.proofs.lemmas.Bool.Decides.{nat_tests}
 use Rattle.wire.specs.Format.{signed, packed_below, no_seal}
 
@@ -128,3 +129,31 @@ none_above q i h l =
     let p : 65536 ≤ 2 ^ i = pow_mono {i = 16} {j = i} l in
     let d : q / 2 ^ i ≡ 0 = div-eq_of_lt (omega arith) in
     ap (λ (k : ℕ). eqb (k % 2) 1) d
+
+-- the parts that are still to come at console i, of the bytes cut into sixteens
+abbrev pub parts_from : ℕ → List ℕ → ℕ → List (List ℕ)
+parts_from set bs i = drop (before set i) (first_chunks 16 (length bs / 16) bs)
+
+pub parts_first : (set : ℕ) (bs : List ℕ) → first_chunks 16 (length bs / 16) bs ≡ parts_from set bs 0
+parts_first set bs = ap (λ (n : ℕ). drop n (first_chunks 16 (length bs / 16) bs)) (sym (before_none set))
+
+pub parts_kept : (set : ℕ) (bs : List ℕ) (i : ℕ) → signed set i ≡ false → parts_from set bs i ≡ parts_from set bs (i + 1)
+parts_kept set bs i s = ap (λ (n : ℕ). drop n (first_chunks 16 (length bs / 16) bs)) (sym (before_out set i s))
+
+-- a signer's part comes next
+module _ (set : ℕ) (bs : List ℕ) (i : ℕ) (low : set < 65536) (below : i < 16) (room : 16 * ones set ≤ length bs) (s : signed set i ≡ true) (rest : List (List ℕ)) (e : rest ≡ parts_from set bs i) where
+  part_next : rest ≡ field (16 * before set i) 16 bs ∷ parts_from set bs (i + 1)
+  part_next =
+      let more = before_signer set i low below s in
+      let n : before set i < length bs / 16 = omega arith in
+      let long = length-first_chunks 16 (length bs / 16) bs in
+      let at = chunk_at 16 (length bs / 16) (before set i) bs n in
+      let cut = drop_more (first_chunks 16 (length bs / 16) bs) (before set i) [] (omega arith) in
+      let next = before_in set i s in
+      cc
+
+  pub part_taken : (part : List ℕ) (after : List (List ℕ)) → rest ≡ part ∷ after → (part ≡ field (16 * before set i) 16 bs) × (after ≡ parts_from set bs (i + 1))
+  part_taken part after f = let n = part_next in (cc, cc)
+
+  pub part_there : length rest ≡ 0 → ⊥
+  part_there z = let n : length rest ≡ suc (length (parts_from set bs (i + 1))) = ap length part_next in omega arith

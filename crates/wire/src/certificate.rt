@@ -70,11 +70,13 @@ fn seals_in(set: u16, bytes: &[u8]) -> [[u8; 16]; 16]
     ensures { result ≡ seals_in set bytes.now }
 {
     let mut seals = [[0; 16]; 16];
-    let mut at = 0;
+    let (parts, _) = bytes.as_chunks::<16>();
+    let mut parts = parts.iter();
     for (i, seal) in seals.iter_mut().enumerate() {
-        if has(set, i) {
-            *seal = array_at(bytes, at);
-            at += 16;
+        if has(set, i)
+            && let Some(part) = parts.next()
+        {
+            *seal = *part;
         }
     }
     seals
