@@ -64,7 +64,6 @@ fn put_seals(out: &mut Writer<'_>, set: u16, seals: &[[u8; 16]])
 }
 
 // The seals of the signers, each at its signer's number, from where they stand by rising number.
-// Stays: the place of the next seal moves on at a signer alone, so that a chain over the seals would carry it all the same.
 fn seals_in(set: u16, bytes: &[u8]) -> [[u8; 16]; 16]
     requires { 16 * count_ones set ≤ length bytes.now }
     ensures { result ≡ seals_in set bytes.now }
