@@ -25,9 +25,3 @@ loop-t-preserved c =
     let read : c.from_be_bytes.result ≡ from_be_bytes w32 word = c.from_be_bytes.ensures in
     schedule_step block c.loop-t.ws t c.from_be_bytes.result (omega arith)
     (word_read block (take t c.loop-t.ws) t c.from_be_bytes.result early (read ∙ chunk_word block word t here)) c.loop-t.invariant
-
-pub returns : goal.returns
-returns c =
-    let n : c.loop-t.t ≡ 16 = omega (arith, c.as_chunks.ensures.front_len) in
-    let v = c.loop-t.invariant in
-    cc

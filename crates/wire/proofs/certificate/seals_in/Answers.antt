@@ -1,16 +1,9 @@
 use Rattle.std.proofs.Common.{sym, ap, ◌∙◌, arith, rules, None, ◌≡◌, ◌<◌}
 use Rattle.std.proofs.lemmas.List.{set-get_or}
 use Rattle.wire.specs.Read.{seals_in}
-use Rattle.wire.proofs.Signing.{part_taken, part_there, parts_first, parts_kept, spread, spread_in, spread_out}
+use Rattle.wire.proofs.Signing.{part_taken, part_there, parts_kept, spread, spread_in, spread_out}
 use Rattle.wire.proofs.certificate.seals_in.Goals as goal
 use Rattle.wire.proofs.certificate.seals_in.Goals.{then-has+in-Some, else-has, else-has-via-else-has, else-has-via-then-has+in-None-1}
-
-pub loop-i-init : goal.loop-i-init
-loop-i-init c =
-    record {
-      parts = c.iter-parts.ensures.rest ∙ (c.as_chunks.ensures.front ∙ parts_first c.args.set c.args.bytes.now);
-      seals = search rules;
-    }
 
 pub loop-i-preserved : goal.loop-i-preserved
 loop-i-preserved c =
