@@ -1,6 +1,6 @@
 -- A list filled from its start, over spare places, an array made by a closure, and a list cut into parts of one length.
-use Rattle.std.proofs.Common.{add-zero, zero-add, get_or, zero, subst, ◌≡◌, ℕ, suc, ◌+◌, ◌-◌, ◌*◌, ◌<◌, List, [], ◌∷◌, ◌++◌, length, set, replicate, take, drop, sym, refl, ap, ◌∙◌, arith}
-use Rattle.std.proofs.lemmas.List.{append_assoc, drop-drop, set_at}
+use Rattle.std.proofs.Common.{add-zero, zero-add, get_or, zero, subst, ◌≡◌, ℕ, suc, ◌+◌, ◌-◌, ◌<◌, List, [], ◌∷◌, ◌++◌, length, set, replicate, drop, sym, refl, ap, ◌∙◌, arith}
+use Rattle.std.proofs.lemmas.List.{append_assoc, set_at}
 use Rattle.std.specs.Simd.{first_chunks}
 use Rattle.std.specs.Array.{IsFromFnResultFrom}
 use Rattle.std.specs.Fn.{Called, Mut}
@@ -36,16 +36,6 @@ pub made_all :
     (xs : List X) (n : ℕ) → IsFromFnResultFrom g f xs 0 n → (k : ℕ) (d : X) → k < n → get_or xs k d ≡ h k
 made_all g f h pure xs n e k d l =
     subst (λ (j : ℕ). get_or xs j d ≡ h j) (zero-add k) (made g f h pure xs 0 n e k d l)
-
--- the part at place i
-pub chunk_at : (n k i : ℕ) (xs : List ℕ) → i < k → get_or (first_chunks n k xs) i [] ≡ take n (drop (n * i) xs)
-chunk_at n zero i xs below = absurd (omega arith)
-chunk_at n (suc k) zero xs below = let e : n * 0 ≡ 0 = omega arith in rw e refl
-chunk_at n (suc k) (suc i) xs below =
-    let next = chunk_at n k i (drop n xs) (omega arith) in
-    let d = drop-drop (n * i) n xs in
-    let e : n + n * i ≡ n * suc i = grind arith in
-    cc
 
 pub length-first_chunks : (n k : ℕ) (xs : List ℕ) → length (first_chunks n k xs) ≡ k
 length-first_chunks n zero xs = refl

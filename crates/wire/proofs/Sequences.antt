@@ -11,7 +11,7 @@ use Rattle.wire.specs.declared.order.Order.{Order}
 use Rattle.wire.specs.declared.orders.Orders.{Orders}
 use Rattle.wire.specs.Format.{blank, pack}
 use Rattle.wire.specs.Read.{order_in, orders_in}
-use Rattle.wire.proofs.Filling.{chunk_at}
+use Rattle.digest.proofs.Arrays.{chunk_at}
 
 pub length-orders_in : (k : ℕ) (bs : List ℕ) → length (orders_in k bs) ≡ k
 unfolding orders_in

@@ -7,7 +7,8 @@ use Rattle.std.proofs.lemmas.List.FromFn.{map-range_with_len_more, length-map-ra
 use Rattle.std.specs.List.{range_with_len}
 use Rattle.wire.specs.Bytes.{field}
 use Rattle.wire.specs.Read.{seal_in}
-use Rattle.wire.proofs.Filling.{chunk_at, fill_more, leave_more, length-first_chunks}
+use Rattle.digest.proofs.Arrays.{chunk_at}
+use Rattle.wire.proofs.Filling.{fill_more, leave_more, length-first_chunks}
 use Rattle.std.specs.Simd.{first_chunks}
 use lib.Pow.{mod-pow-add}
 use Rattle.std.proofs.lemmas.List.{length-append, append-nil, drop_more}
