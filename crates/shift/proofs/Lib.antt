@@ -1,2 +1,1 @@
 pub mod Saying
-pub mod Playing

@@ -1,5 +1,6 @@
 // The clerk of a pit: it keeps what the lines before have left, and answers one line at a time.
-ghost use Rattle.std.specs.Prelude.{string_bytes, OnOk};
+ghost use Rattle.std.specs.Prelude.{◌≡◌, [], MatchResult, string_bytes, OnOk};
+ghost use Rattle.script.specs.declared.fault.Fault.TheVariants.{NoMemory};
 ghost use Rattle.shift.specs.Replies.{Answers, AnswersAny, Replied};
 
 use crate::consoles;
@@ -40,6 +41,15 @@ fn answer(alloc: Global, command: Command, text: &mut String) -> Result<(), Allo
     }
 }
 
+// The answer to a command that needs no pit, a line.
+fn answered<'a>(alloc: Global, command: Command) -> Result<String, Fault<'a>>
+    ensures { MatchResult result (λ text. Replied command [] (string_bytes text)) (λ e. e ≡ NoMemory) }
+{
+    let mut text = String::new(alloc);
+    answer(alloc, command, &mut text)?;
+    Ok(text)
+}
+
 impl Clerk {
     pub fn new() -> Clerk {
         Clerk { pit: None }
@@ -52,9 +62,7 @@ impl Clerk {
         let Some(command) = read_line(alloc, line)? else {
             return Ok(None);
         };
-        let mut text = String::new(alloc);
-        answer(alloc, command, &mut text)?;
-        Ok(Some(text))
+        Ok(Some(answered(alloc, command)?))
     }
 
     // The pit that stands, with the text that its answer is added to.
@@ -106,6 +114,7 @@ impl Clerk {
     }
 
     // The answer to any line without its newline, or nothing where the line asks for nothing.
+    // Stays: beside `play`, on which the promise for lines that need no pit stands.
     pub fn play_any<'a>(
         &mut self,
         alloc: Global,
@@ -115,8 +124,10 @@ impl Clerk {
     {
         match read_any_line(alloc, line)? {
             None => Ok(None),
-            // Stays: `play` reads the line again, since the promise for lines that need no pit stands on it.
-            Some(AnyCommand::Plain(_)) => Ok(self.play(alloc, line)?),
+            Some(AnyCommand::Plain(command)) => {
+                let text = answered(alloc, command)?;
+                Ok(Some(text))
+            }
             Some(AnyCommand::OfPit(command)) => {
                 let mut text = String::new(alloc);
                 self.answer_in_pit(alloc, command, &mut text)?;

@@ -9,6 +9,7 @@ mod stop;
 
 use bench::bench;
 use clerk::Clerk;
+use script::fault::Fault;
 use script::lines::without_newline;
 use std::io::{BufRead, BufReader, Write};
 use std::process::ExitCode;
@@ -21,7 +22,12 @@ struct Ended;
 
 // Plays one line, and writes its answer out.
 fn play<'a>(rt: &HostRuntime, clerk: &mut Clerk, line: &'a [u8]) -> Result<(), Stop<'a>> {
-    let Some(answer) = clerk.play_any(rt.alloc(), line)? else {
+    let answer = match clerk.play(rt.alloc(), line) {
+        // no line of those that need no pit: perhaps one of a pit
+        Err(Fault::UnknownWord(_)) => clerk.play_any(rt.alloc(), line)?,
+        answer => answer?,
+    };
+    let Some(answer) = answer else {
         return Ok(());
     };
     rt.stdout()
