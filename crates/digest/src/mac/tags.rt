@@ -10,13 +10,15 @@ const IPAD: u8 = 0x36;
 
 const OPAD: u8 = 0x5c;
 
-// The key, filled up with zeros to a block, with each byte xored with `pad`.
+// The key, filled up with zeros to a block, with each byte xored with `pad`: beyond the key the pad itself stands there.
 fn key_block(pad: u8, key: &[u8; 32]) -> [u8; 64]
     ensures { result ≡ key_block pad key.now }
 {
-    let mut block = [0; 64];
-    block[..32].copy_from_slice(key);
-    block.map(|b| b ^ pad)
+    let mut block = [pad; 64];
+    for (i, b) in key.iter().enumerate() {
+        block[i] = b ^ pad;
+    }
+    block
 }
 
 impl MacKey {
