@@ -1,5 +1,5 @@
 // Numbers as decimal digits.
-ghost use Rattle.std.specs.Prelude.{◌≡◌, ◌<◌, ◌≤◌, ◌++◌, length, string_bytes, decimal, Decides, OnOk};
+ghost use Rattle.std.specs.Prelude.{◌≡◌, ◌+◌, ◌-◌, ◌*◌, ◌≤◌, ◌++◌, string_bytes, decimal, Decides, OnOk};
 ghost use Rattle.std.specs.Option.{SomeIff};
 ghost use Rattle.text.specs.Decimal.{Digits, value, NumberRead, DecimalLaw};
 
@@ -20,15 +20,26 @@ fn all_digits(field: &[u8]) -> bool
     field.iter().all(|c| c.is_ascii_digit())
 }
 
+// One more digit read after n, if the number does not pass the highest.
+fn next_value(n: u64, digit: u8, highest: u64) -> Option<u64>
+    requires { (48 ≤ digit) × (digit ≤ 57) }
+    ensures { SomeIff result (n * 10 + (digit - 48) ≤ highest) (n * 10 + (digit - 48)) }
+{
+    let next = n.checked_mul(10)?.checked_add(u64::from(digit - b'0'))?;
+    (next <= highest).then_some(next)
+}
+
 // The number that the digits denote, if it is at most the highest.
+// Stays: `parse` was tried, over text made of the field; reading short numbers took over ten times as long, and a line of orders twice as long.
 fn value_up_to(field: &[u8], highest: u64) -> Option<u64>
-    requires some { 0 < length field.now }
-    requires digits { Digits field.now }
+    requires { Digits field.now }
     ensures { SomeIff result (value field.now ≤ highest) (value field.now) }
 {
-    let digits = str::from_utf8(field).ok()?;
-    let n = digits.parse::<u64>().ok()?;
-    (n <= highest).then_some(n)
+    let mut n = 0;
+    for c in field {
+        n = next_value(n, *c, highest)?;
+    }
+    Some(n)
 }
 
 // Reads a field of one or more digits, of any length, whose number is at most the highest.

@@ -1,20 +1,25 @@
-use Rattle.std.proofs.Common.{sym, ◌∙◌, arith}
-use Rattle.text.proofs.Numerals.{some_within, ok_is, no_text, none_parsed, some_parsed}
+use Rattle.std.proofs.Common.{◌+◌, ◌-◌, ◌*◌, ◌≤◌, get_or, drop, arith}
+use Rattle.std.proofs.ByRecursion.{All-get_or}
+use Rattle.std.proofs.lemmas.List.{at_drop_all}
+use Rattle.text.specs.Decimal.{value_after}
+use Rattle.text.proofs.Numerals.{value_grows, value_step}
 use Rattle.text.proofs.number.value_up_to.Goals as goal
 
-pub returns-in_err-digits : goal.returns-in_err-digits
-returns-in_err-digits c =
-    rw c.from_residual.ensures (λ _. no_text c.args.field.now c.requires.digits _ _ c.from_utf8.result (sym c.ok.ensures.value ∙ c.in_err-digits.was) c.from_utf8.ensures.cases)
+pub next_value-requires : goal.next_value-requires
+next_value-requires c =
+    All-get_or (λ x. (48 ≤ x) × (x ≤ 57)) c.args.field.now c.loop-c.c-index 0 c.loop-c-test.true c.requires
 
 pub returns-in_err-n : goal.returns-in_err-n
 returns-in_err-n c =
-    let text = ok_is _ _ c.from_utf8.result c.in_ok-digits.digits (sym c.in_ok-digits.ensures.value) c.from_utf8.ensures.cases in
-    let parsed = rw text.0 at c.parse.ensures.value.0 in
-    rw c.from_residual-in_err-n.ensures (λ low. none_parsed c.args.field.now c.requires.digits c.requires.some c.parse.result parsed (sym c.ok-2.ensures.value ∙ c.in_err-n.was) (omega arith))
+    let step = value_step c.loop-c.n c.args.field.now c.loop-c.c-index c.loop-c-test.true in
+    let grown = value_grows (c.loop-c.n * 10 + (get_or c.args.field.now c.loop-c.c-index 0 - 48)) (drop (c.loop-c.c-index + 1) c.args.field.now) in
+    rw c.from_residual.ensures (λ low. c.in_err-n.ensures (omega arith))
+
+pub loop-c-preserved : goal.loop-c-preserved
+loop-c-preserved c =
+    let step = value_step c.loop-c.n c.args.field.now c.loop-c.c-index c.loop-c-test.true in
+    let next = c.in_ok-n.ensures in
+    grind arith
 
 pub returns : goal.returns
-returns c =
-    let text = ok_is _ _ c.from_utf8.result c.in_ok-digits.digits (sym c.in_ok-digits.ensures.value) c.from_utf8.ensures.cases in
-    let parsed = rw text.0 at c.parse.ensures.value.0 in
-    let n = some_parsed c.args.field.now c.requires.digits c.requires.some c.parse.result parsed c.in_ok-n.n (sym c.ok-2.ensures.value ∙ c.in_ok-n.was) in
-    some_within c.then_some.result c.in_ok-n.n c.args.highest c.then_some.ensures n
+returns c = let end = at_drop_all (value_after c.loop-c.n) c.args.field.now c.loop-c.c-index c.loop-c-test.false in grind arith
