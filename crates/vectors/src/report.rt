@@ -1,18 +1,16 @@
 // A line for each example, and the total.
-ghost use Rattle.std.specs.Prelude.{◌≡◌, ℕ, List, if◌then◌else◌, IfOk, string_bytes};
-ghost use Rattle.text.specs.Hexadecimal.{hex_pairs};
+ghost use Rattle.std.specs.Prelude.{◌≡◌, if◌then◌else◌, Decides};
 ghost use Rattle.vectors.specs.Bytes.{Published};
 ghost use Rattle.vectors.specs.Counts.{more};
 
-use std::alloc::{AllocError, Global};
+use crate::hex::hex;
 use std::io;
-use text::hex::Hex;
 
-/// A digest or a tag in hexadecimal.
-pub fn shown(alloc: Global, came: &[u8; 32]) -> Result<String, AllocError>
-    ensures { IfOk result (λ s. string_bytes s ≡ hex_pairs came.now) }
+// Whether what came begins, in hexadecimal, with the published digits.
+fn is_published(came: &[u8; 32], published: &str) -> bool
+    ensures { Decides result (Published came.now published.now) }
 {
-    format!(in alloc; "{}", Hex(came))
+    hex(came).starts_with(published.as_bytes())
 }
 
 // Stays: `right` is the answer itself and picks no kind.
@@ -41,21 +39,22 @@ impl Tally {
         }
     }
 
-    /// Writes the line of an example: the digits that came, as many as are published, and whether they are as published.
+    /// Writes the line of an example: its first bytes, as many as are published, and whether they are as published.
     pub fn enter(
         &mut self,
         rt: &HostRuntime,
         name: &str,
-        digits: &str,
+        came: &[u8; 32],
         published: &str,
     ) -> io::Result<()>
         ensures run { self.new.run ≡ more self.old.run }
-        ensures right { (came : List ℕ) → digits.now ≡ hex_pairs came → Published came published.now → self.new.right ≡ more self.old.right }
-        ensures wrong { (came : List ℕ) → digits.now ≡ hex_pairs came → (Published came published.now → ⊥) → self.new.right ≡ self.old.right }
+        ensures right { Published came.now published.now → self.new.right ≡ more self.old.right }
+        ensures wrong { (Published came.now published.now → ⊥) → self.new.right ≡ self.old.right }
     {
-        let right = digits.starts_with(published);
+        let right = is_published(came, published);
         self.count(right);
-        let shown = digits.get(..published.len()).unwrap_or(digits);
+        let digits = hex(came);
+        let shown = str::from_utf8(&digits[..published.len().min(64)]).unwrap_or("no text");
         line(rt, name, shown, right)
     }
 
